@@ -1,0 +1,9 @@
+pub mod Words
+pub mod Lists
+pub mod Filling
+pub mod Pairs
+pub mod Meeting
+pub mod Registers
+pub mod Bytes
+pub mod Masks
+pub mod Stores

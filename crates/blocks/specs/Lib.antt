@@ -1,0 +1,3 @@
+pub mod Operators
+pub mod Masks
+pub mod Widths

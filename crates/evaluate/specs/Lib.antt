@@ -1,0 +1,4 @@
+pub mod Stack
+pub mod Variables
+pub mod Nodes
+pub mod Expression

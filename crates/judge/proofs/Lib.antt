@@ -1,0 +1,6 @@
+pub mod Words
+pub mod Shapes
+pub mod Listed
+pub mod Outcomes
+pub mod Walk
+pub mod Sequence

@@ -1,0 +1,91 @@
+-- There is a memory that holds lane i: one can be filled with any bytes, variable by variable.
+use mathlib.Core.Path.{_≡_, sym, ap, _∙_}
+use mathlib.Core.List.{List, _++_}
+use Prim.Native.Nat.{ℕ, zero, suc, _+_, _*_, _≤_, _<_}
+use native.Mathlib.Nat.{add-zero, mul-le-mul-right}
+use native.Mathlib.Omega.{arith}
+use lib.ListN.{length, take, drop, replicate, length-replicate, length-drop}
+use lib.Seq.{take-all, length-take-le}
+use Rattle.meaning.specs.Memory.{Memory, Declared, Declarations, declared, size, whole, need}
+use Rattle.lane.specs.Lane.{seat, lane-bytes}
+use Rattle.lane.proofs.Tests.{Order, below, same, above, order}
+use Rattle.lane.proofs.Lanes.{Reaches}
+use Rattle.lane.proofs.Sound.{lanes-of}
+use Rattle.lane.proofs.Bytes.{part, length-replaced, part-inside, part-before}
+use Rattle.lane.proofs.Declared.{Laid, each-length, thin-declared, Paired}
+use Rattle.lane.proofs.Memories.{Agree}
+
+module _ (Δ : Declarations) (laid : Laid Δ) (given : ℕ → List ℕ) (sized : (x : ℕ) → x < length Δ → length (given x) ≡ whole ((declared Δ x) .kind) (lanes-of Δ x)) where
+  abbrev from : ℕ → ℕ
+  from x = (declared Δ x) .address
+
+  abbrev width : ℕ → ℕ
+  width x = whole ((declared Δ x) .kind) (lanes-of Δ x)
+
+  -- The bytes of the first n variables are those given.
+  filled : ℕ → Memory
+  filled zero = replicate (need Δ) 0
+  filled (suc n) = take (from n) (filled n) ++ (given n ++ drop (width n) (drop (from n) (filled n)))
+
+  length-filled : (n : ℕ) → n ≤ length Δ → length (filled n) ≡ need Δ
+  unfolding filled
+  length-filled zero h = length-replicate (need Δ) 0
+  length-filled (suc n) h =
+      let l : length (filled n) ≡ need Δ = length-filled n (omega arith) in
+      length-replaced (from n) (width n) (given n) (filled n) (omega (arith, laid .within n h)) (sized n h) ∙ l
+
+  filled-at : (n x : ℕ) → x < n → n ≤ length Δ → part (from x) (width x) (filled n) ≡ given x
+  unfolding filled
+  filled-at zero x h k = absurd (omega arith)
+  filled-at (suc n) x h k = go (filled-at n x) (order x n)
+    where
+      fits : from n + width n ≤ length (filled n)
+      fits = omega (arith, laid .within n k, length-filled n (omega arith))
+
+      go : (x < n → n ≤ length Δ → part (from x) (width x) (filled n) ≡ given x) → Order x n → part (from x) (width x) (filled (suc n)) ≡ given x
+      go old (below l) = part-before (from n) (width n) (given n) (filled n) fits (sized n k) (from x) (width x) (laid .apart x n l k) ∙ old l (omega arith)
+      go old (same e) =
+          rw e
+          (ap (λ (k : ℕ). part k (width n) (filled (suc n))) (sym (add-zero (from n)))
+          ∙ part-inside (from n) (width n) (given n) (filled n) fits (sized n k) 0 (width n) (omega arith)
+          ∙ take-all (width n) (given n) (omega (arith, sized n k)))
+      go old (above l) = absurd (omega arith)
+
+-- The one lane of a variable is the whole of it.
+one-lane-part : (i : ℕ) (d : Declared) (N : Memory) → d .lanes ≡ 1 → lane-bytes i d N ≡ part (d .address) (whole (d .kind) (d .lanes)) N
+unfolding lane-bytes seat whole
+one-lane-part i d N e =
+    let a : d .address + 0 * size (d .kind) ≡ d .address = omega arith in
+    let w : 1 * size (d .kind) ≡ size (d .kind) = omega arith in
+    rw (e, a, w)
+
+-- A memory for the narrowed declarations that agrees in lane i.
+module _ (i : ℕ) (Γ Δ : Declarations) (pair : Paired Γ Δ) (all : (x : ℕ) → x < length Γ → Reaches i (lanes-of Γ x)) (M : Memory) (long : need Γ ≤ length M) where
+  lane-size : (x : ℕ) → x < length Γ → length (lane-bytes i (declared Γ x) M) ≡ size ((declared Γ x) .kind)
+  unfolding lane-bytes whole
+  lane-size x h =
+      let d = declared Γ x in
+      let at : ℕ = d .address + seat (d .lanes) i * size (d .kind) in
+      length-take-le (size (d .kind)) (drop at M) (omega (arith, length-drop at M, pair .laid .within x h, mul-le-mul-right (size (d .kind)) (all x h)))
+
+  thin-size : (x : ℕ) → x < length Δ → length (lane-bytes i (declared Γ x) M) ≡ whole ((declared Δ x) .kind) (lanes-of Δ x)
+  unfolding whole
+  thin-size x h =
+      let t = thin-declared (pair .thin) x in
+      let k : x < length Γ = omega (arith, each-length (pair .thin)) in
+      rw (t .one-lane, t .same-kind) (lane-size x k ∙ omega arith)
+
+  pub narrow-start : (N : Memory) × Agree i Γ Δ M N
+  narrow-start =
+      let N = filled Δ (pair .laid′) (λ x. lane-bytes i (declared Γ x) M) thin-size (length Δ) in
+      let size : length N ≡ need Δ = length-filled Δ (pair .laid′) (λ x. lane-bytes i (declared Γ x) M) thin-size (length Δ) (omega arith) in (
+        N,
+        record {
+          full = record {
+            long = long;
+            each = λ x h. sym (one-lane-part i (declared Δ x) N (thin-declared (pair .thin) x .one-lane)
+                ∙ filled-at Δ (pair .laid′) (λ x. lane-bytes i (declared Γ x) M) thin-size (length Δ) x (omega (arith, each-length (pair .thin))) (omega arith));
+          };
+          short = omega arith;
+        },
+      )

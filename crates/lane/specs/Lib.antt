@@ -1,0 +1,4 @@
+pub mod Narrow
+pub mod Lane
+pub mod NarrowTree
+pub mod Values

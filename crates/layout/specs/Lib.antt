@@ -1,0 +1,5 @@
+pub mod Rows
+pub mod Words
+pub mod Code
+pub mod Table
+pub mod Sound

@@ -1,0 +1,10 @@
+pub mod Bytes
+pub mod Numbers
+pub mod Signs
+pub mod Words
+pub mod Pieces
+pub mod Turns
+pub mod Spelled
+pub mod Rows
+pub mod Going
+pub mod Unique

@@ -1,0 +1,17 @@
+-- `listing::kind_number` meets its contract. Assumes nothing.
+use mathlib.Core.Path.{refl}
+use Rattle.meaning.specs.Services.{kind-number}
+use Rattle.layout.specs.Table.{kind-of}
+use Rattle.listing.proofs.Laws.{not-int}
+use Rattle.listing.proofs.kind_number.Statement.{statement}
+use Rattle.listing.proofs.kind_number.Tie as tie
+
+returns : tie.Need-returns
+unfolding kind-number kind-of
+returns c = rw (c .if1 .taken)
+
+returns-2 : tie.Need-returns-2
+returns-2 c = not-int (c .before .args .word) (c .if1 .left)
+
+pub kind-number-spec : {M : Type 1} → statement M
+kind-number-spec = tie.close (tie.spec returns returns-2)

@@ -1,0 +1,11 @@
+pub mod Codes
+pub mod Tokens
+pub mod Tree
+pub mod Reading
+pub mod Program
+pub mod Memory
+pub mod Typing
+pub mod Running
+pub mod Services
+pub mod Table
+pub mod Errors

@@ -1,0 +1,118 @@
+-- Document 01, "What is built": judge, run and the listing of variables, from bytes to numbers and bytes.
+use Prim.Native.Nat.{ℕ, zero, suc, _-_}
+use mathlib.Core.Bool.{Bool, true, false}
+use mathlib.Core.List.{List, [], _∷_, _++_}
+use lib.Dec.{leb}
+use lib.ListN.{length, drop}
+use Rattle.meaning.specs.declared.Kind.{Kind}
+use Rattle.meaning.specs.declared.Kind.the-variants.{Int as int, Bool as bool}
+use Rattle.meaning.specs.declared.Refusal.the-variants.{MemoryTooShort, BudgetSpent}
+use Rattle.meaning.specs.Codes.{code, Out, ok, refused, if_then_else_}
+use Rattle.meaning.specs.Tokens.{lexed}
+use Rattle.meaning.specs.Reading.{read}
+use Rattle.meaning.specs.Program.{Program}
+use Rattle.meaning.specs.Typing.{typed-program}
+use Rattle.meaning.specs.Memory.{Memory, Declared, Declarations, little-endian, need, fetch, update}
+use Rattle.meaning.specs.Running as R
+use Rattle.meaning.specs.Running.{Ran, spent, done}
+
+-- "Each answers four numbers: code, place (a byte offset in the text), need (bytes of memory), steps."
+pub record Answer : Type 0 where
+  pub code : ℕ
+  pub place : ℕ
+  pub need : ℕ
+  pub steps : ℕ
+
+-- The four numbers in a row.
+unfoldable pub answer : ℕ → ℕ → ℕ → ℕ → Answer
+answer c p n s = record { code = c; place = p; need = n; steps = s }
+
+-- One pass after another, or the first refusal.
+unfoldable pub pass : {S T A B : Type 0} → Out S A → (A → Out T B) → Out T B
+pass (ok a s) k = k a
+pass (refused c p) k = refused c p
+
+-- "Order: 1; then 2 over the whole text; then 3 and 4; then 5 to 11 in text order"
+unfoldable pub judged : List ℕ → Out Declarations Program
+unfolding pass lexed read typed-program
+judged text = pass (lexed text) (λ ts. pass (read ts) typed-program)
+
+-- "Code 0: need given"; "Codes 1 to 11: need and steps 0." The fourth number of an accepted text is what s makes of its
+-- declarations.
+unfoldable pub verdict : (Declarations → ℕ) → Out Declarations Program → Answer
+verdict s (ok P Γ) = answer 0 0 (need Γ) (s Γ)
+verdict s (refused c p) = answer (code c) p 0 0
+
+-- "Judge takes a program text and gives a verdict." "Judge gives 0 to 11, always with steps 0."
+unfoldable pub judge : List ℕ → Answer
+unfolding judged verdict answer need
+judge text = verdict (λ Γ. 0) (judged text)
+
+-- "Code 13: need given, steps equal to the budget, memory as after exactly those steps. Code 0: need given, steps as taken."
+unfoldable pub ended : ℕ → ℕ → Ran Memory → Answer × Memory
+ended n budget (spent p M) = (answer (code BudgetSpent) p n budget, M)
+ended n budget (done M left) = (answer 0 0 n (budget - left), M)
+
+-- "Code 12: need given, steps 0. In all of these the memory keeps every byte." "The mask starts as one true lane."
+unfoldable pub executed : Memory → ℕ → Out Declarations Program → Answer × Memory
+executed M budget (refused c p) = (answer (code c) p 0 0, M)
+executed M budget (ok P Γ) =
+    if leb (need Γ) (length M)
+    then (λ _. ended (need Γ) budget (R.run (fetch Γ) (update Γ) P (true ∷ []) budget M))
+    else λ _. (answer (code MemoryTooShort) 0 (need Γ) 0, M)
+
+-- "Run takes a text, a lent byte memory and a budget .., judges the text itself, then executes over that memory."
+unfoldable pub run : List ℕ → Memory → ℕ → Answer × Memory
+unfolding judged executed ended answer need fetch update R.run
+run text M budget = executed M budget (judged text)
+
+-- Where the variables lie, for the collector: a record of 16 bytes for a declaration, the place of its name, its kind (0 int,
+-- 1 bool), length and address.
+unfoldable pub kind-number : Kind → ℕ
+kind-number int = 0
+kind-number bool = 1
+
+-- Four numbers as "32-bit little-endian numbers".
+unfoldable pub sixteen : ℕ → ℕ → ℕ → ℕ → List ℕ
+sixteen a b c d = little-endian 4 a ++ little-endian 4 b ++ little-endian 4 c ++ little-endian 4 d
+
+-- A table with the records of some declarations, as many as fit whole; its other bytes stay.
+unfoldable pub listed : Declarations → List ℕ → List ℕ
+listed [] l = l
+listed (d ∷ Γ) l =
+    if leb 16 (length l)
+    then (λ _. sixteen (d .place) (kind-number (d .kind)) (d .lanes) (d .address) ++ listed Γ (drop 16 l))
+    else λ _. l
+
+-- The table after the listing of a text: of a refused text it stays.
+unfoldable pub table-of : Out Declarations Program → List ℕ → List ℕ
+table-of (ok P Γ) l = listed Γ l
+table-of (refused c p) l = l
+
+-- The listing: code, place and need as the judge's, the number of declarations, and the table.
+unfoldable pub variables : List ℕ → List ℕ → Answer × List ℕ
+variables text table = (verdict length (judged text), table-of (judged text) table)
+
+-- What a call leaves: what it returns, the answer slice, and what it was lent besides.
+pub record Called (A : Type 0) : Type 0 where
+  pub returns : ℕ
+  pub slice : List ℕ
+  pub lent : A
+
+-- "code, place, need, steps are written as four 32-bit little-endian numbers; bytes after the 16th stay. The call then
+-- returns 1. A shorter answer slice returns 0 and nothing else happens."
+unfoldable pub called : {A : Type 0} → List ℕ → A → Answer × A → Called A
+called slice lent (a, after) =
+    if leb 16 (length slice)
+    then (λ _. record { returns = 1; slice = sixteen (a .code) (a .place) (a .need) (a .steps) ++ drop 16 slice; lent = after })
+    else λ _. record { returns = 0; slice = slice; lent = lent }
+
+-- The three services as they are called.
+unfoldable pub judge-call : List ℕ → List ℕ → Called (Unit {0})
+judge-call text slice = called slice tt (judge text, tt)
+
+unfoldable pub run-call : List ℕ → Memory → ℕ → List ℕ → Called Memory
+run-call text M budget slice = called slice M (run text M budget)
+
+unfoldable pub variables-call : List ℕ → List ℕ → List ℕ → Called (List ℕ)
+variables-call text table slice = called slice table (variables text table)

@@ -1,0 +1,7 @@
+-- What the proofs of several functions use, and what the reader's answers settle.
+pub mod Laws
+pub mod LawsValue
+pub mod LawsText
+pub mod Settled
+pub mod Sizes
+mod Examples

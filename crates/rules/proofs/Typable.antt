@@ -1,0 +1,248 @@
+-- What the rules type, within the limit of declarations, `meaning` types.
+use Prim.Native.Nat.{ℕ, _+_, _<_, _≤_}
+use mathlib.Core.Path.{_≡_, refl, ap, ap₂, _∙_}
+use mathlib.Core.Bool.{true, false}
+use mathlib.Core.List.{[], _∷_, _++_}
+use mathlib.Core.Option.{Option, none, some}
+use native.Mathlib.Omega.{arith}
+use lib.ListN.{length}
+use borrow.Author.Tests.{lt-ltb}
+use Rattle.meaning.specs.declared.Kind.{Kind}
+use Rattle.meaning.specs.declared.Kind.the-variants.{Int as int, Bool as bool}
+use Rattle.meaning.specs.declared.Refusal.the-variants.{UnknownName, WrongKind, WrongLength}
+use Rattle.meaning.specs.Codes.{ok, check, refuse, give, option, _>>=_, _>>_, lengths, declaration-limit}
+use Rattle.meaning.specs.Tree.{Name, Binary, table, unary-table, Expr, number, Block, Stmt, empty, braces, declare, assign, if-else, while, scalar, Stmts, none-yet, _⨾_}
+use Rattle.meaning.specs.Program.{two}
+use Rattle.meaning.specs.Memory.{Declared, Declarations, declared}
+use Rattle.meaning.specs.Typing.{Typed, same-kind, accepts, gives-kind, match, fits, find, variable-named, typed, typed-condition, storable, declare-name, good-block, lanes-or, typed-declaration, with-one, scope, typed-statement, typed-statements, joined}
+use Rattle.rules.specs.Lengths.{Match, Target, Fills, whole, broadcast}
+use Rattle.rules.specs.Scopes.{declarations, declarations-in}
+use Rattle.rules.specs.Typing.{Names, _at_, Listed, no-block, block, _∣_⊢_∶⟨_∣_⟩, T-NUMBER, T-BOOLEAN, T-VAR, T-MASK, T-UNARY, T-INTS, T-ALIKE, _∣_⊢_⊣_, T-SKIP, T-SCOPE, T-DECL, T-INIT, T-ASSIGN, T-BROADCAST, T-IF, T-WHILE, T-SCALAR, _∣_⊢*_⊣_, T-NONE, T-SEQUENCE}
+use Rattle.rules.proofs.Acts.{Succeeds, yes, Keeps, next, keeping, also}
+use Rattle.rules.proofs.Lengths.{match-fits, does-match, not-narrow, target-match, does-fill}
+use Rattle.rules.proofs.Names.{opens, opens-with-one, Found, missing, number as found, finds}
+use Rattle.rules.proofs.Typed.{counted, in-scope, Branch, stated-by-rules, sequence-by-rules}
+
+same-as-itself : (k : Kind) → same-kind k k ≡ true
+unfolding same-kind
+same-as-itself int = refl
+same-as-itself bool = refl
+
+-- A variable, or a value, of a kind and a length.
+record Of (k : Kind) (n : ℕ) (kind : Kind) (lanes : ℕ) : Type 0 where
+  kinds : kind ≡ k
+  lengths : lanes ≡ n
+
+-- A name that is open.
+known : (C p : ℕ) (x : Name) (Γ : Declarations) (k : Kind) (n : ℕ) → opens Γ at x ≡ some (k, n) → Match C n →
+    Succeeds (Keeps Γ (λ (v : ℕ × Declared). Of k n ((v .1) .kind) ((v .1) .lanes))) (variable-named C p x Γ)
+unfolding variable-named
+known C p x Γ k n e m = go (find x 0 Γ) (finds x 0 Γ)
+  where
+    go : (o : Option ℕ) → Found x 0 Γ o →
+        Succeeds (Keeps Γ (λ (v : ℕ × Declared). Of k n ((v .1) .kind) ((v .1) .lanes))) (option (refuse UnknownName p) (λ i. do
+          let d = declared Γ i
+          check (fits C (d .lanes)) WrongLength p
+          give (i, d)) o Γ)
+    go none (missing h) = let never : _≡_ {A = ℕ} 0 1 = cc in absurd (omega arith)
+    go (some i) (found j is l h) =
+        let number : j ≡ i = omega arith in
+        let here = rw number at h in
+        let same : _≡_ {A = Kind × ℕ} ((declared Γ i) .kind, (declared Γ i) .lanes) (k, n) = cc in
+        let lanes : (declared Γ i) .lanes ≡ n = ap (λ t. t .1) same in
+        let test : fits C ((declared Γ i) .lanes) ≡ true = rw lanes (match-fits C n m) in
+        rw test (yes (refl, record { kinds = ap (λ t. t .0) same; lengths = lanes }))
+
+-- An operator whose operands are typed, from the test of their kinds on.
+operates : {n n′ : ℕ} {k l : Kind} {Γ : Declarations} (p : ℕ) (o : Binary) (a b : Typed) → Of k n (a .kind) (a .lanes) →
+    Of l n′ (b .kind) (b .lanes) → accepts ((table o) .1) k l ≡ true → Match n n′ →
+    Succeeds (Keeps Γ (λ (c : Typed). Of (gives-kind ((table o) .2) k) (joined n n′) (c .kind) (c .lanes))) ((do
+      check (accepts ((table o) .1) (a .kind) (b .kind)) WrongKind p
+      check (match (a .lanes) (b .lanes)) WrongLength p
+      give (record {
+        code = two (a .kind) o (a .code) (b .code);
+        kind = gives-kind ((table o) .2) (a .kind);
+        lanes = joined (a .lanes) (b .lanes);
+      })) Γ)
+operates {n} {n′} p o a b h h′ t m =
+    let kinds : accepts ((table o) .1) (a .kind) (b .kind) ≡ true = rw (h .kinds, h′ .kinds) t in
+    let lanes : match (a .lanes) (b .lanes) ≡ true = rw (h .lengths, h′ .lengths) (does-match n n′ m) in
+    rw (kinds, lanes)
+    (yes (refl, record { kinds = ap (gives-kind ((table o) .2)) (h .kinds); lengths = ap₂ joined (h .lengths) (h′ .lengths) }))
+
+-- An expression that the rules type.
+type-known : {N : Names} {C n : ℕ} {e : Expr} {k : Kind} → N ∣ C ⊢ e ∶⟨ k ∣ n ⟩ → (Γ : Declarations) → opens Γ ≡ N →
+    Succeeds (Keeps Γ (λ a. Of k n (a .kind) (a .lanes))) (typed C e Γ)
+unfolding typed accepts same-kind
+type-known T-NUMBER Γ o = yes (refl, record { kinds = refl; lengths = refl })
+type-known T-BOOLEAN Γ o = yes (refl, record { kinds = refl; lengths = refl })
+type-known {C} (T-VAR {p = p} {x = x} {k = k} {n = n} e m) Γ o =
+    keeping _ (known C p x Γ k n (rw o e) m) (λ v h.
+    yes (refl, record { kinds = h .kinds; lengths = h .lengths }))
+type-known T-MASK Γ o = yes (refl, record { kinds = refl; lengths = refl })
+type-known (T-UNARY {o = u} d) Γ o =
+    keeping _ (type-known d Γ o) (λ a h.
+    let same : same-kind (a .kind) ((unary-table u) .1) ≡ true = rw (h .kinds) (same-as-itself ((unary-table u) .1)) in
+    rw same (yes (refl, record { kinds = h .kinds; lengths = h .lengths })))
+type-known (T-INTS {p = p} {o = u} t d d′ m) Γ o =
+    keeping _ (type-known d Γ o) (λ a h.
+    keeping _ (type-known d′ Γ o) (λ b h′.
+    operates p u a b h h′ (rw t refl) m))
+type-known (T-ALIKE {p = p} {o = u} {k = k} t d d′ m) Γ o =
+    keeping _ (type-known d Γ o) (λ a h.
+    keeping _ (type-known d′ Γ o) (λ b h′.
+    operates p u a b h h′ (rw t (same-as-itself k)) m))
+
+-- A condition.
+condition-known : {N : Names} {C n : ℕ} {e : Expr} → N ∣ C ⊢ e ∶⟨ bool ∣ n ⟩ → (p : ℕ) (Γ : Declarations) → opens Γ ≡ N →
+    Succeeds (Keeps Γ (λ (a : Typed). a .lanes ≡ n)) (typed-condition C p e Γ)
+unfolding typed-condition
+condition-known d p Γ o =
+    keeping _ (type-known d Γ o) (λ a h.
+    let test : same-kind (a .kind) bool ≡ true = rw (h .kinds) (same-as-itself bool) in
+    rw test (yes (refl, h .lengths)))
+
+-- A value for a target.
+fits-target : {C l : ℕ} (p : ℕ) (k : Kind) (n : ℕ) (a : Typed) (Γ : Declarations) → Of k l (a .kind) (a .lanes) → Fills l n →
+    Target C n → storable C p k n a Γ ≡ ok tt Γ
+unfolding storable
+fits-target {C} {l} p k n a Γ h f t = rw (h .kinds, h .lengths, same-as-itself k, does-fill l n f, not-narrow C n t)
+
+-- A new name, where there is room for it.
+name-new : (C : ℕ) (k : Kind) (n p : ℕ) (x : Name) (Γ : Declarations) → Match C n → opens Γ at x ≡ none →
+    length Γ < declaration-limit → declare-name C k n p x Γ ≡ ok (length Γ) (with-one k n p x Γ)
+unfolding declare-name
+name-new C k n p x Γ m e r = rw (match-fits C n m, go (find x 0 Γ) (finds x 0 Γ), lt-ltb (length Γ) declaration-limit r)
+  where
+    go : (o : Option ℕ) → Found x 0 Γ o → option true (λ i. false) o ≡ true
+    go none h = refl
+    go (some i) (found j is l h) = let never : _≡_ {A = ℕ} 0 1 = cc in absurd (omega arith)
+
+good : {b : Block} (Γ : Declarations) → Listed b → good-block b Γ ≡ ok tt Γ
+unfolding good-block
+good Γ no-block = refl
+good Γ (block h) = rw h
+
+-- Where there is room for its declarations, a statement or a sequence is not refused, and leaves the names N′.
+record Typable (C : ℕ) (s : Stmt) (N N′ : Names) : Type 0 where
+  act : (Γ : Declarations) → opens Γ ≡ N → length Γ + declarations s ≤ declaration-limit →
+      Succeeds (λ P Γ′. opens Γ′ ≡ N′) (typed-statement C s Γ)
+
+pub record Typable-all (C : ℕ) (l : Stmts) (N N′ : Names) : Type 0 where
+  pub act : (Γ : Declarations) → opens Γ ≡ N → length Γ + declarations-in l ≤ declaration-limit →
+      Succeeds (λ P Γ′. opens Γ′ ≡ N′) (typed-statements C l Γ)
+
+-- A branch or a body.
+branch-known : {C : ℕ} {s : Stmt} {N N′ : Names} → Typable C s N N′ → (Γ : Declarations) → opens Γ ≡ N →
+    length Γ + declarations s ≤ declaration-limit → Succeeds (Branch s C Γ) (scope (typed-statement C s) Γ)
+unfolding scope
+branch-known {C} {s} a Γ o r =
+    next _ (also (a .act Γ o r) (stated-by-rules s C Γ)) (λ P Γ′ h.
+    yes (in-scope (λ N. opens Γ ∣ C ⊢ s ⊣ N) (h .1 .declares) (h .1 .types)))
+
+-- A law for each rule.
+module _ {C p : ℕ} {N : Names} where
+  skips : Typable C (empty p) N N
+  unfolding typed-statement
+  skips = record { act = λ Γ o r. yes o }
+
+  scopes : {N′ : Names} {l : Stmts} → Typable-all C l N N′ → Typable C (braces p l) N N
+  unfolding typed-statement declarations scope
+  scopes {l} a = record {
+    act = λ Γ o r.
+        next _ (also (a .act Γ o r) (sequence-by-rules l C Γ)) (λ P Γ′ h.
+        yes ((in-scope (λ N. opens Γ ∣ C ⊢* l ⊣ N) (h .1 .declares) (h .1 .types)) .closed ∙ o));
+  }
+
+  declares : {q : ℕ} {k : Kind} {b : Block} {x : Name} → Listed b → Match C (lanes-or 1 b) → N at x ≡ none →
+      Typable C (declare p k b q x none) N (N ++ ((x, (k, lanes-or 1 b)) ∷ []))
+  unfolding typed-statement declarations typed-declaration
+  declares {q} {k} {b} {x} g m e = record {
+    act = λ Γ o r.
+        let n = lanes-or 1 b in
+        rw (good Γ g, name-new C k n q x Γ m (rw o e) (omega arith))
+        (yes (opens-with-one k n q x Γ ∙ rw o));
+  }
+
+  inits : {q l : ℕ} {k : Kind} {b : Block} {x : Name} {e : ℕ × Expr} → Listed b → N ∣ C ⊢ e .1 ∶⟨ k ∣ l ⟩ →
+      Fills l (lanes-or l b) → Target C (lanes-or l b) → N at x ≡ none →
+      Typable C (declare p k b q x (some e)) N (N ++ ((x, (k, lanes-or l b)) ∷ []))
+  unfolding typed-statement declarations typed-declaration
+  inits {q} {l} {k} {b} {x} {e} g d f t new = record {
+    act = λ Γ o r.
+        rw (good Γ g)
+        (keeping _ (type-known d Γ o) (λ a h.
+        let n = lanes-or l b in
+        let lanes : lanes-or (a .lanes) b ≡ n = ap (λ i. lanes-or i b) (h .lengths) in
+        rw (lanes, fits-target (e .0) k n a Γ h f t, name-new C k n q x Γ (target-match C n t) (rw o new) (omega arith))
+        (yes (opens-with-one k n q x Γ ∙ rw o))));
+  }
+
+  assigns : {q n l : ℕ} {k : Kind} {x : Name} {e : Expr} → N at x ≡ some (k, n) → N ∣ C ⊢ e ∶⟨ k ∣ l ⟩ → Fills l n → Target C n →
+      Typable C (assign p x q e) N N
+  unfolding typed-statement
+  assigns {q} {n} {k = k} {x = x} h d f t = record {
+    act = λ Γ o r.
+        keeping _ (known C p x Γ k n (rw o h) (target-match C n t)) (λ v i.
+        keeping _ (type-known d Γ o) (λ a j.
+        rw (i .kinds, i .lengths, fits-target q k n a Γ j f t) (yes o)));
+  }
+
+  ifs : {N₁ N₂ : Names} {l : ℕ} {e : Expr} {s t : Stmt} → N ∣ C ⊢ e ∶⟨ bool ∣ l ⟩ → Typable (joined l C) s N N₁ →
+      Typable (joined l C) t N N₂ → Typable C (if-else p e s t) N N
+  unfolding typed-statement declarations
+  ifs d a b = record {
+    act = λ Γ o r.
+        keeping _ (condition-known d p Γ o) (λ c h.
+        rw h
+        (next _ (branch-known a Γ o (omega arith)) (λ P Γ₁ i.
+        let n = counted (i .declares) in
+        next _ (branch-known b Γ₁ (i .closed ∙ o) (omega arith)) (λ P′ Γ₂ j.
+        yes (j .closed ∙ (i .closed ∙ o))))));
+  }
+
+  whiles : {N′ : Names} {l : ℕ} {e : Expr} {s : Stmt} → N ∣ C ⊢ e ∶⟨ bool ∣ l ⟩ → Typable (joined l C) s N N′ →
+      Typable C (while p e s) N N
+  unfolding typed-statement declarations
+  whiles d a = record {
+    act = λ Γ o r.
+        keeping _ (condition-known d p Γ o) (λ c h.
+        rw h
+        (next _ (branch-known a Γ o r) (λ P Γ₁ i.
+        yes (i .closed ∙ o))));
+  }
+
+  scalars : {N′ : Names} {s : Stmt} → Typable 1 s N N′ → Typable C (scalar p s) N N
+  unfolding typed-statement declarations
+  scalars a = record { act = λ Γ o r. next _ (branch-known a Γ o r) (λ P Γ₁ i. yes (i .closed ∙ o)) }
+
+module _ {C : ℕ} {N : Names} where
+  nones : Typable-all C none-yet N N
+  unfolding typed-statement
+  nones = record { act = λ Γ o r. yes o }
+
+  sequences : {N₁ N₂ : Names} {l : Stmts} {s : Stmt} → Typable-all C l N N₁ → Typable C s N₁ N₂ → Typable-all C (l ⨾ s) N N₂
+  unfolding typed-statement declarations
+  sequences {l} a b = record {
+    act = λ Γ o r.
+        next _ (also (a .act Γ o (omega arith)) (sequence-by-rules l C Γ)) (λ P Γ₁ h.
+        let n = counted (h .1 .declares) in
+        next _ (b .act Γ₁ (h .0) (omega arith)) (λ P′ Γ₂ j.
+        yes j));
+  }
+
+-- What the rules type.
+pub typable : {N N′ : Names} {C : ℕ} {l : Stmts} → N ∣ C ⊢* l ⊣ N′ → Typable-all C l N N′
+typable d = elim d as (λ N C s N′ d. Typable C s N N′) (λ N C l N′ d. Typable-all C l N N′) [
+  | T-SKIP ↦ skips
+  | T-SCOPE (d → a) ↦ scopes a
+  | T-DECL g m e ↦ declares g m e
+  | T-INIT g d f t e ↦ inits g d f t e
+  | T-ASSIGN h d t ↦ assigns h d (whole refl) t
+  | T-BROADCAST h d t ↦ assigns h d (broadcast refl) t
+  | T-IF d m (s → a) (t → b) ↦ ifs d a b
+  | T-WHILE d m (s → a) ↦ whiles d a
+  | T-SCALAR (s → a) ↦ scalars a
+  | T-NONE ↦ nones
+  | T-SEQUENCE (l → a) (s → b) ↦ sequences a b
+]

@@ -1,0 +1,6 @@
+pub mod Lengths
+pub mod Scopes
+pub mod Typing
+pub mod Evaluation
+pub mod Accepted
+pub mod Ends

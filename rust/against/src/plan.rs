@@ -1,0 +1,91 @@
+//! Which calls are made for one case.
+
+use crate::call::{Call, Service};
+use generate::{Case, Random};
+use oracle::Code;
+
+/// The longest answer slice tried.
+const LONGEST_ANSWER: usize = 40;
+
+/// The bytes of one record of the table of variables.
+const RECORD: usize = 16;
+
+/// A run that takes more steps than these has not every budget tried.
+const MOST_BUDGETS: u32 = 400;
+
+/// What is tried with a case beside the judge, a run and a listing; it stays the same while a
+/// case shrinks.
+#[derive(Clone, Debug)]
+pub struct Plan {
+    /// The lengths of answer slices.
+    answers: Vec<usize>,
+    /// How many records each table has room for, and how many bytes more or less than that.
+    tables: Vec<(usize, isize)>,
+    /// Whether every budget from 0 to past the end is tried.
+    every_budget: bool,
+}
+
+impl Plan {
+    /// A plan for the case of this seed and index: mostly a few lengths, at times all of them.
+    pub fn new(seed: u64, index: u64) -> Self {
+        let mut random = Random::new(!seed, index);
+        let answers = match random.below(32) {
+            0 => (0..=LONGEST_ANSWER).collect(),
+            _ => vec![random.below(LONGEST_ANSWER + 1), random.between(16, 17)],
+        };
+        let tables = match random.below(32) {
+            0 => (0..=66).flat_map(|k| [(k, -1), (k, 0), (k, 1)]).collect(),
+            _ => (0..3).map(|_| Self::table(&mut random)).collect(),
+        };
+        Plan {
+            answers,
+            tables,
+            every_budget: random.once_in(8),
+        }
+    }
+
+    /// Room for a few records, give or take a byte, or for them all.
+    fn table(random: &mut Random) -> (usize, isize) {
+        let records = match random.below(3) {
+            0 => random.below(4),
+            1 => random.below(12),
+            _ => random.between(60, 66),
+        };
+        (records, *random.pick(&[-1, 0, 1, 7]))
+    }
+
+    /// The calls to make for this case.
+    pub fn calls(&self, case: &Case) -> Vec<Call> {
+        let run = || Service::Run(case.memory.clone(), case.budget);
+        let mut calls = Vec::new();
+        for answer in self.answers.iter().copied() {
+            for service in [Service::Judge, run(), Service::Variables(3 * RECORD + 1)] {
+                calls.push(Call { service, answer });
+            }
+        }
+        let answer = RECORD + 8;
+        for (records, more) in &self.tables {
+            let length = (records * RECORD).saturating_add_signed(*more);
+            let service = Service::Variables(length);
+            calls.push(Call { service, answer });
+        }
+        for budget in 0..self.budgets(case) {
+            let service = Service::Run(case.memory.clone(), budget);
+            calls.push(Call { service, answer });
+        }
+        calls
+    }
+
+    /// How many budgets, from 0 on, are tried: to past the end of a run that has one.
+    fn budgets(&self, case: &Case) -> u32 {
+        if !self.every_budget {
+            return 0;
+        }
+        let end = oracle::run(&case.text, &mut case.memory.clone(), MOST_BUDGETS);
+        match end.code {
+            code if code == Code::Ended as u32 => end.steps + 3,
+            code if code == Code::BudgetSpent as u32 => 64,
+            _ => 2,
+        }
+    }
+}

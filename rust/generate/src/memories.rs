@@ -1,0 +1,59 @@
+//! Memories and budgets for a text.
+
+use crate::random::Random;
+
+/// A memory for this text: mostly as long as it needs, at times longer or shorter.
+pub fn memory_for(text: &[u8], random: &mut Random) -> Vec<u8> {
+    let listed = oracle::variables(text);
+    let need = listed.answer.need as usize;
+    let length = match random.below(20) {
+        0 if need > 0 => random.below(need),
+        1 if need > 0 => need - 1,
+        2..=5 => need + random.between(1, 40),
+        6 => need + 4096,
+        7..=12 if need == 0 => random.below(70),
+        _ => need,
+    };
+    let mut memory: Vec<u8> = match random.below(3) {
+        0 => vec![0xaa; length],
+        _ => (0..length).map(|_| random.byte()).collect(),
+    };
+    for row in &listed.rows {
+        for lane in 0..row.length as usize {
+            let size = if row.kind == 0 { 4 } else { 1 };
+            let at = row.address as usize + lane * size;
+            if at + size <= length {
+                fill(&mut memory[at..at + size], random);
+            }
+        }
+    }
+    memory
+}
+
+/// A small int, one at the limits or any; a bool of 0, 1 or another byte.
+fn fill(element: &mut [u8], random: &mut Random) {
+    if let [truth] = element {
+        let other = random.byte();
+        *truth = *random.pick(&[0, 0, 0, 1, 1, 2, 128, 255, other]);
+        return;
+    }
+    let edges = [i32::MIN, i32::MIN + 1, -1, 0, 1, i32::MAX - 1, i32::MAX];
+    let value = match random.below(6) {
+        0 => *random.pick(&edges),
+        1 => random.bits() as i32,
+        _ => random.between(0, 25) as i32 - 6,
+    };
+    element.copy_from_slice(&value.to_le_bytes());
+}
+
+/// A budget for this text: small or ample, the greatest only where nothing can loop.
+pub fn budget_for(text: &[u8], random: &mut Random) -> u32 {
+    let loops = text.windows(5).any(|bytes| bytes == b"while");
+    match random.below(8) {
+        0 => random.below(4) as u32,
+        1 => random.below(20) as u32,
+        2 => random.below(200) as u32,
+        3 if !loops => u32::MAX - random.below(2) as u32,
+        _ => 3000,
+    }
+}

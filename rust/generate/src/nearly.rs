@@ -1,0 +1,208 @@
+//! Well-typed programs with one change of kind, length, scope, target or order.
+
+use crate::random::Random;
+
+/// Changes one thing in these tokens, if there is a place for it.
+pub fn change(tokens: &mut Vec<String>, random: &mut Random) {
+    for _ in 0..8 {
+        let changed = match random.below(13) {
+            0 => replace(tokens, random, &["int", "bool"], &["int", "bool"]),
+            1 => block_length(tokens, random),
+            2 => without_block(tokens, random),
+            3 => with_block(tokens, random),
+            4..=5 => other_name(tokens, random),
+            6 => operator(tokens, random),
+            7 => constant(tokens, random),
+            8 => replace(tokens, random, &["{", "}"], &[";", "{", "scalar"]),
+            9 => without_scalar(tokens, random),
+            10 => statement(tokens, random),
+            11 => insert_unary(tokens, random),
+            _ => insert_statement(tokens, random),
+        };
+        if changed {
+            return;
+        }
+    }
+}
+
+/// The index of a token at random among those that satisfy the test.
+fn find(tokens: &[String], random: &mut Random, test: impl Fn(usize) -> bool) -> Option<usize> {
+    let found: Vec<usize> = (0..tokens.len()).filter(|index| test(*index)).collect();
+    match found.is_empty() {
+        true => None,
+        false => Some(*random.pick(&found)),
+    }
+}
+
+/// Puts one of `others` in the place of one of `these`.
+fn replace(
+    tokens: &mut [String],
+    random: &mut Random,
+    these: &[&str],
+    others: &[&'static str],
+) -> bool {
+    let among = |index: usize| these.contains(&tokens[index].as_str());
+    let Some(index) = find(tokens, random, among) else {
+        return false;
+    };
+    tokens[index] = random.token(others).into();
+    true
+}
+
+/// Another number in one `block[N]`.
+fn block_length(tokens: &mut [String], random: &mut Random) -> bool {
+    let number = |index: usize| index >= 2 && tokens[index - 2] == "block";
+    let Some(index) = find(tokens, random, number) else {
+        return false;
+    };
+    let numbers = ["1", "2", "4", "8", "16", "0", "3", "5", "17", "32"];
+    tokens[index] = random.token(&numbers).into();
+    true
+}
+
+/// One type loses its `block[N]`.
+fn without_block(tokens: &mut Vec<String>, random: &mut Random) -> bool {
+    let block = |index: usize| tokens[index] == "block";
+    let Some(index) = find(tokens, random, block) else {
+        return false;
+    };
+    tokens.drain(index..(index + 4).min(tokens.len()));
+    true
+}
+
+/// One type gets a `block[N]`.
+fn with_block(tokens: &mut Vec<String>, random: &mut Random) -> bool {
+    let scalar = |index: usize| {
+        let next = tokens.get(index + 1).map(String::as_str);
+        ["int", "bool"].contains(&tokens[index].as_str()) && next != Some("block")
+    };
+    let Some(index) = find(tokens, random, scalar) else {
+        return false;
+    };
+    let number = random.token(&["1", "2", "4", "8", "16"]);
+    let block = ["block", "[", number, "]"].map(String::from);
+    tokens.splice(index + 1..index + 1, block);
+    true
+}
+
+/// One statement loses its `scalar`.
+fn without_scalar(tokens: &mut Vec<String>, random: &mut Random) -> bool {
+    let scalar = |index: usize| tokens[index] == "scalar";
+    let Some(index) = find(tokens, random, scalar) else {
+        return false;
+    };
+    tokens.remove(index);
+    true
+}
+
+/// Whether a token is a name.
+fn is_name(token: &str) -> bool {
+    let reserved = [
+        "int",
+        "bool",
+        "block",
+        "if",
+        "else",
+        "while",
+        "scalar",
+        "current_mask",
+        "true",
+        "false",
+    ];
+    let first = token.as_bytes()[0];
+    (first.is_ascii_alphabetic() || first == b'_') && !reserved.contains(&token)
+}
+
+/// Another name of the text, or an unknown one, in the place of a name.
+fn other_name(tokens: &mut [String], random: &mut Random) -> bool {
+    let name = |index: usize| is_name(&tokens[index]);
+    let Some(index) = find(tokens, random, name) else {
+        return false;
+    };
+    let other = find(tokens, random, name).map(|other| tokens[other].clone());
+    tokens[index] = match other {
+        Some(other) if !random.once_in(5) => other,
+        _ => "unknown".into(),
+    };
+    true
+}
+
+/// Another operator in the place of one.
+fn operator(tokens: &mut [String], random: &mut Random) -> bool {
+    let signs = [
+        "|", "^", "&", "==", "!=", "<", ">", "<=", ">=", "+", "-", "*",
+    ];
+    replace(tokens, random, &signs, &signs)
+}
+
+/// A constant or current_mask in the place of a constant.
+fn constant(tokens: &mut [String], random: &mut Random) -> bool {
+    let constant = |index: usize| {
+        let token = tokens[index].as_str();
+        let number = token.as_bytes()[0].is_ascii_digit();
+        let block = index >= 2 && tokens[index - 2] == "block";
+        !block && (number || ["true", "false", "current_mask"].contains(&token))
+    };
+    let Some(index) = find(tokens, random, constant) else {
+        return false;
+    };
+    tokens[index] = random.token(&["true", "7", "current_mask"]).into();
+    true
+}
+
+/// The span of a simple statement: from after a `;`, `{` or `}` to its `;`.
+fn simple(tokens: &[String], random: &mut Random) -> Option<(usize, usize)> {
+    let boundary = |index: usize| [";", "{", "}"].contains(&tokens[index].as_str());
+    let end = find(tokens, random, |index| tokens[index] == ";")?;
+    let start = (0..end).rev().find(|index| boundary(*index));
+    Some((start.map_or(0, |index| index + 1), end + 1))
+}
+
+/// One statement is left out, or said twice, or moved.
+fn statement(tokens: &mut Vec<String>, random: &mut Random) -> bool {
+    let Some((start, end)) = simple(tokens, random) else {
+        return false;
+    };
+    let span: Vec<String> = match random.below(3) {
+        0 => tokens[start..end].to_vec(),
+        _ => tokens.drain(start..end).collect(),
+    };
+    if random.once_in(2) {
+        let to = simple(tokens, random).map_or(0, |(start, _)| start);
+        tokens.splice(to..to, span);
+    }
+    true
+}
+
+/// A unary operator before an operand.
+fn insert_unary(tokens: &mut Vec<String>, random: &mut Random) -> bool {
+    let operand =
+        |index: usize| index > 0 && ["=", "(", "+", "<", "&"].contains(&tokens[index - 1].as_str());
+    let Some(index) = find(tokens, random, operand) else {
+        return false;
+    };
+    let sign = random.token(&["-", "~", "!"]);
+    tokens.insert(index, sign.into());
+    true
+}
+
+/// A statement that may not fit where it stands.
+fn insert_statement(tokens: &mut Vec<String>, random: &mut Random) -> bool {
+    let to = simple(tokens, random).map_or(0, |(start, _)| start);
+    let statements: [&[&str]; 8] = [
+        &["int", "new", "=", "1", ";"],
+        &["bool", "new", "=", "true", ";"],
+        &["int", "x", ";"],
+        &["x", "=", "1", ";"],
+        &["bool", "ok", "=", "current_mask", ";"],
+        &["int", "block", "[", "4", "]", "s", "=", "1", ";"],
+        &["scalar", "a", "=", "0", ";"],
+        &["while", "(", "b", ")", "c", "=", "c", ";"],
+    ];
+    let statement = random
+        .pick(&statements)
+        .iter()
+        .map(|token| token.to_string());
+    tokens.splice(to..to, statement);
+    true
+}

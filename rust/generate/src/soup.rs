@@ -1,0 +1,77 @@
+//! Token soup: tokens in any order, and bytes in any order.
+
+use crate::layout::{layout, Style};
+use crate::random::Random;
+
+/// Every reserved word and sign, with some names and numbers.
+const TOKENS: [&str; 43] = [
+    "int",
+    "bool",
+    "block",
+    "if",
+    "else",
+    "while",
+    "scalar",
+    "current_mask",
+    "true",
+    "false",
+    ";",
+    "{",
+    "}",
+    "(",
+    ")",
+    "[",
+    "]",
+    "=",
+    "==",
+    "!=",
+    "<",
+    ">",
+    "<=",
+    ">=",
+    "+",
+    "-",
+    "*",
+    "&",
+    "|",
+    "^",
+    "~",
+    "!",
+    "a",
+    "b",
+    "x",
+    "_",
+    "0",
+    "1",
+    "2",
+    "4",
+    "16",
+    "2147483647",
+    "3",
+];
+
+/// Starts that let some soup get further than its first token.
+const STARTS: [&str; 8] = [
+    "",
+    "int x ;",
+    "int x = ",
+    "bool b = (",
+    "int block [ 4 ] a ; a =",
+    "if ( true ) ; else",
+    "while ( 1 <",
+    "bool b ; if ( b ) { ",
+];
+
+/// A text of tokens or bytes in any order.
+pub fn soup(random: &mut Random) -> Vec<u8> {
+    if random.once_in(6) {
+        return (0..random.below(40)).map(|_| random.byte()).collect();
+    }
+    let start = random.pick(&STARTS).split_whitespace();
+    let mut tokens: Vec<String> = start.map(String::from).collect();
+    for _ in 0..random.below(30) {
+        tokens.push(random.token(&TOKENS).into());
+    }
+    let style = *random.pick(&[Style::Plain, Style::Tight, Style::Wild]);
+    layout(&tokens, style, random)
+}

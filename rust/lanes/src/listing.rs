@@ -1,0 +1,75 @@
+//! Variables and memory for readers.
+
+use crate::source::Source;
+use ruihmento::Variable;
+use std::io::{self, Write};
+
+/// How many bytes of memory are shown; what lies behind them belongs to no variable.
+const SHOWN: usize = 4096;
+
+/// Writes a table of variables, with their values where there is a memory.
+pub fn write_variables(
+    source: &Source,
+    variables: &[Variable<'_>],
+    memory: Option<&[u8]>,
+    out: &mut impl Write,
+) -> io::Result<()> {
+    let mut rows = vec![["name", "kind", "lanes", "address", "declared"]
+        .map(String::from)
+        .to_vec()];
+    rows[0].extend(memory.map(|_| "values".to_string()));
+    for variable in variables {
+        let mut row = vec![
+            variable.name.to_string(),
+            variable.kind.to_string(),
+            variable.length.to_string(),
+            variable.address.to_string(),
+            position(source, variable),
+        ];
+        let lanes = memory.and_then(|memory| variable.lanes(memory));
+        row.extend(lanes.map(|lanes| lanes.to_string()));
+        rows.push(row);
+    }
+    write_columns(&rows, out)
+}
+
+/// Line and column of the declared name.
+fn position(source: &Source, variable: &Variable<'_>) -> String {
+    let position = source.position(variable.place);
+    format!("{}:{}", position.line, position.column)
+}
+
+/// Writes rows with their cells under one another.
+fn write_columns(rows: &[Vec<String>], out: &mut impl Write) -> io::Result<()> {
+    let columns = rows.iter().map(Vec::len).max().unwrap_or(0);
+    let width = |column: usize| {
+        let cells = rows.iter().filter_map(|row| row.get(column));
+        cells.map(String::len).max().unwrap_or(0)
+    };
+    let widths: Vec<usize> = (0..columns).map(width).collect();
+    for row in rows {
+        let cells = row.iter().zip(&widths);
+        let line: String = cells
+            .map(|(cell, width)| format!("  {cell:width$}"))
+            .collect();
+        writeln!(out, "{}", line.trim_end())?;
+    }
+    Ok(())
+}
+
+/// Writes the memory in rows of 16 bytes as lower-case hex, each behind its address.
+pub fn write_memory(memory: &[u8], out: &mut impl Write) -> io::Result<()> {
+    let shown = &memory[..memory.len().min(SHOWN)];
+    for (row, bytes) in shown.chunks(16).enumerate() {
+        writeln!(out, "  {:>4}  {}", row * 16, hex(bytes))?;
+    }
+    match memory.len() - shown.len() {
+        0 => Ok(()),
+        more => writeln!(out, "  {more} more bytes, which belong to no variable"),
+    }
+}
+
+/// Bytes as lower-case hex.
+pub fn hex(bytes: &[u8]) -> String {
+    bytes.iter().map(|byte| format!("{byte:02x}")).collect()
+}

@@ -1,0 +1,59 @@
+//! An independent judge and runner for lane routines, written from document 01 alone.
+//!
+//! A text passes one module after another: `tokens`, `reading` into a `tree`, `typing` into a
+//! `program` with its addresses from `memory`, then `running` on `lanes`.
+//! Comments quote document 01 under the heading they name.
+
+mod answer;
+mod lanes;
+mod memory;
+mod program;
+mod reading;
+mod running;
+mod tokens;
+mod tree;
+mod typing;
+mod watching;
+
+pub use answer::{Answer, Code};
+pub use program::{Program, Row};
+pub use watching::Watched;
+
+/// What is built: "Judge takes a program text and gives a verdict."
+pub fn judge(text: &[u8]) -> Answer {
+    match Program::prepare(text) {
+        Ok(program) => Answer::ended(program.need(), 0),
+        Err(refused) => refused,
+    }
+}
+
+/// What is built: "judges the text itself, then executes over that memory".
+pub fn run(text: &[u8], memory: &mut [u8], budget: u32) -> Answer {
+    match Program::prepare(text) {
+        Ok(program) => program.run(memory, budget),
+        Err(refused) => refused,
+    }
+}
+
+/// Memory: "Every declaration in the text has an address of its own, in text order", listed.
+#[derive(Clone, Debug, PartialEq, Eq)]
+pub struct Variables {
+    /// Codes: the judge's code, place and need, with the number of declarations as steps.
+    pub answer: Answer,
+    /// Memory: one row for each declaration, "in text order".
+    pub rows: Vec<Row>,
+}
+
+/// Memory: where "every declaration in the text" lies; a refused text has no rows.
+pub fn variables(text: &[u8]) -> Variables {
+    match Program::prepare(text) {
+        Ok(program) => Variables {
+            answer: Answer::ended(program.need(), program.rows().len() as u32),
+            rows: program.rows().to_vec(),
+        },
+        Err(answer) => Variables {
+            answer,
+            rows: Vec::new(),
+        },
+    }
+}

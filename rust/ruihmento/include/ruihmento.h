@@ -1,0 +1,104 @@
+/*
+ * Ruihmento: a proved judge and runner for lane routines.
+ *
+ * Link with the archive libruihmento.a, which `rt staticlib ruihmento` makes.
+ * It needs nothing but memcpy and memset.
+ *
+ * What holds of every function here:
+ *
+ *  - A slice is passed as a pointer and the number of its bytes. Any number
+ *    of bytes will do; the pointer of a slice of 0 bytes is never followed,
+ *    but must not be NULL.
+ *  - The slices of one call must not overlap. Only memory, table and answer
+ *    are written, and nothing is kept when the call returns.
+ *  - The answer is four 32-bit little-endian numbers in the first 16 bytes of
+ *    the answer slice; its later bytes stay. The call then returns 1. Where
+ *    the answer slice is shorter than 16 bytes the call returns 0, and
+ *    nothing else happens.
+ *  - Nothing is allocated, and a call uses a fixed amount of stack, below
+ *    256 KiB. Calls on different slices may be made from several threads.
+ *
+ * The four numbers are code, place, need and steps:
+ *
+ *   code   given when                                        place
+ *    0     accepted, or the run ended                        0
+ *    1     text above 4,096 bytes                            0
+ *    2     byte outside the text rules, name too long,       token start
+ *          bad number
+ *    3     token not allowed, or text ends too soon          token, or text length
+ *    4     nesting above 32                                  token
+ *    5     unknown name                                      name
+ *    6     name already open                                 name
+ *    7     block length not 1, 2, 4, 8 or 16                 that number
+ *    8     wrong kind                                        operator, =, if or while
+ *    9     wrong length                                      operator, = or name
+ *   10     length-1 target where the context is longer       =
+ *   11     65th declaration                                  name
+ *   12     memory shorter than need                          0
+ *   13     budget spent with a step still due                first token of its statement
+ *
+ * A place is a byte offset in the text. Need is how many bytes of memory the
+ * text needs, at most 4,096, and 0 with codes 1 to 11. Steps is how many
+ * steps were taken.
+ */
+#ifndef RUIHMENTO_H
+#define RUIHMENTO_H
+
+#include <stddef.h>
+#include <stdint.h>
+
+#ifdef __cplusplus
+extern "C" {
+#endif
+
+/* The bytes of an answer, and of one record of the table of variables. */
+#define RUIHMENTO_RECORD_BYTES 16
+
+/* The most declarations of a text: a table of so many records holds them all. */
+#define RUIHMENTO_MOST_DECLARATIONS 64
+
+/* The kinds in a record of the table of variables. */
+#define RUIHMENTO_INT 0
+#define RUIHMENTO_BOOL 1
+
+/*
+ * Judges a text: codes 0 to 11, steps 0.
+ */
+uint32_t ruihmento_judge(const uint8_t *text, size_t text_len,
+                         uint8_t *answer, size_t answer_len);
+
+/*
+ * Judges a text, then runs it over the memory for at most `budget` steps.
+ *
+ * With codes 1 to 12 no byte of the memory changes and steps is 0. With code
+ * 13 steps is the budget, and the memory is as after exactly those steps.
+ * Bytes outside the text's variables never change.
+ */
+uint32_t ruihmento_run(const uint8_t *text, size_t text_len,
+                       uint8_t *memory, size_t memory_len,
+                       uint32_t budget,
+                       uint8_t *answer, size_t answer_len);
+
+/*
+ * Judges a text and lists where its variables lie in memory.
+ *
+ * Code, place and need are those of ruihmento_judge; the fourth number is how
+ * many declarations the text has, 0 for a text that is refused. For an
+ * accepted text the table takes one record of 16 bytes for each declaration
+ * in text order, as many as fit whole: the place of its name, its kind
+ * (0 int, 1 bool), its length in lanes and its address, each a 32-bit
+ * little-endian number. Every other byte of the table stays, and all of it
+ * where the text is refused.
+ *
+ * A lane of an int is 4 bytes, little-endian two's complement; a lane of a
+ * bool is one byte, false exactly at 0. The lanes of a block lie side by side.
+ */
+uint32_t ruihmento_variables(const uint8_t *text, size_t text_len,
+                             uint8_t *table, size_t table_len,
+                             uint8_t *answer, size_t answer_len);
+
+#ifdef __cplusplus
+}
+#endif
+
+#endif

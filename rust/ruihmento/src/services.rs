@@ -1,0 +1,73 @@
+//! The archive's three services as they are: byte slices in, 1 or 0 out.
+//!
+//! This is the only module with unsafe code. Each service takes slices of any length, so these
+//! functions are safe: Rust's slices are valid, and a `&mut` slice overlaps no other.
+//!
+//! Each returns 1, or 0 where the answer slice is shorter than 16 bytes; then nothing else
+//! happens. Otherwise the first 16 bytes of the answer take four 32-bit little-endian numbers,
+//! and its later bytes stay.
+#![allow(unsafe_code)]
+
+extern "C" {
+    fn ruihmento_judge(text: *const u8, text_len: usize, answer: *mut u8, answer_len: usize)
+        -> u32;
+    fn ruihmento_run(
+        text: *const u8,
+        text_len: usize,
+        memory: *mut u8,
+        memory_len: usize,
+        budget: u32,
+        answer: *mut u8,
+        answer_len: usize,
+    ) -> u32;
+    fn ruihmento_variables(
+        text: *const u8,
+        text_len: usize,
+        table: *mut u8,
+        table_len: usize,
+        answer: *mut u8,
+        answer_len: usize,
+    ) -> u32;
+}
+
+/// Judges the text: code, place, need and 0 go into the answer.
+pub fn judge(text: &[u8], answer: &mut [u8]) -> u32 {
+    // SAFETY: the pointers and lengths are those of slices that live through the call.
+    unsafe { ruihmento_judge(text.as_ptr(), text.len(), answer.as_mut_ptr(), answer.len()) }
+}
+
+/// Judges the text and runs it over the memory: code, place, need and steps go into the answer.
+pub fn run(text: &[u8], memory: &mut [u8], budget: u32, answer: &mut [u8]) -> u32 {
+    // SAFETY: the pointers and lengths are those of slices that live through the call.
+    unsafe {
+        ruihmento_run(
+            text.as_ptr(),
+            text.len(),
+            memory.as_mut_ptr(),
+            memory.len(),
+            budget,
+            answer.as_mut_ptr(),
+            answer.len(),
+        )
+    }
+}
+
+/// Judges the text and lists its declarations: code, place, need and their number go into the
+/// answer, and one record of 16 bytes for each, as many as fit whole, into the table.
+///
+/// A record is four 32-bit little-endian numbers: the place of the name, the kind (0 int, 1
+/// bool), the length and the address. Every other byte of the table stays, and all of it where
+/// the text is refused.
+pub fn variables(text: &[u8], table: &mut [u8], answer: &mut [u8]) -> u32 {
+    // SAFETY: the pointers and lengths are those of slices that live through the call.
+    unsafe {
+        ruihmento_variables(
+            text.as_ptr(),
+            text.len(),
+            table.as_mut_ptr(),
+            table.len(),
+            answer.as_mut_ptr(),
+            answer.len(),
+        )
+    }
+}

@@ -1,0 +1,117 @@
+//! The safe interface: codes and their words, the listing of variables, values in memory.
+
+use ruihmento::{judge, run, services, variables, Kind, Lanes, Misfit, Refusal};
+
+/// Texts that the judge refuses with codes 1 to 11, in this order.
+fn refused_texts() -> [String; 11] {
+    [
+        ";".repeat(4097),
+        "int x = 010;".into(),
+        "int x".into(),
+        "{".repeat(33),
+        "x = 1;".into(),
+        "int a; int a;".into(),
+        "int block[3] v;".into(),
+        "bool b = 3;".into(),
+        "int block[4] a; int block[2] b; a = a + b;".into(),
+        "bool block[4] m; int s; if (m) s = 1; else ;".into(),
+        (0..65).map(|number| format!("int v{number};")).collect(),
+    ]
+}
+
+#[test]
+fn every_code_has_its_refusal_and_a_sentence() {
+    for (text, expected) in refused_texts().iter().zip(Refusal::ALL) {
+        let answer = judge(text.as_bytes());
+        assert_eq!(answer.refusal(), Some(expected), "{text}");
+        assert_eq!(answer.code, expected.code());
+        assert!(!answer.is_accepted() && !answer.is_ended() && expected.is_of_text());
+        assert_eq!((answer.need, answer.steps), (0, 0));
+    }
+    for (code, refusal) in (1..).zip(Refusal::ALL) {
+        assert_eq!(refusal.code(), code);
+        assert_eq!(Refusal::from_code(code), Some(refusal));
+        let sentence = refusal.to_string();
+        assert!(
+            sentence.ends_with('.') && !sentence.contains(". "),
+            "{sentence}"
+        );
+    }
+    assert_eq!(Refusal::from_code(0), None);
+    assert_eq!(Refusal::from_code(14), Some(Refusal::Other(14)));
+    assert_eq!(Refusal::Other(14).code(), 14);
+}
+
+#[test]
+fn an_accepted_text_may_still_not_end() {
+    let short = run(b"int x = 1;", &mut [7; 3], 10);
+    assert_eq!(short.refusal(), Some(Refusal::ShortMemory));
+    assert!(short.is_accepted() && !short.is_ended());
+    let spent = run(b"int x = 1;", &mut [7; 4], 0);
+    assert_eq!(spent.refusal(), Some(Refusal::BudgetSpent));
+    assert!(spent.is_accepted() && !spent.is_ended());
+    let error = spent.into_result().unwrap_err();
+    assert!(error.to_string().starts_with("code 13 at byte 0: "));
+}
+
+#[test]
+fn variables_are_listed_in_text_order() {
+    let text = b"{ int v; } bool block[8] _m1; // v\n{ int block[2] v; }";
+    let listed = variables(text).unwrap();
+    let rows = listed.list.iter();
+    let rows: Vec<_> = rows
+        .map(|v| (v.name, v.kind, v.length, v.address, v.place))
+        .collect();
+    let expected = [
+        ("v", Kind::Int, 1, 0, 6),
+        ("_m1", Kind::Bool, 8, 8, 25),
+        ("v", Kind::Int, 2, 16, 50),
+    ];
+    assert_eq!(rows, expected);
+    assert_eq!(listed.need, 24);
+    assert_eq!(listed.find("v").map(|v| v.address), Some(0));
+    assert_eq!(listed.find("m1"), None);
+    assert_eq!(variables(b"").unwrap().list, []);
+}
+
+#[test]
+fn sixty_four_variables_are_all_listed() {
+    let text: String = (0..64)
+        .map(|number| format!("int block[16] v{number};"))
+        .collect();
+    let listed = variables(text.as_bytes()).unwrap();
+    assert_eq!((listed.list.len(), listed.need), (64, 4096));
+    assert_eq!(listed.list[63].name, "v63");
+}
+
+#[test]
+fn values_go_into_memory_and_come_back() {
+    let listed = variables(b"bool block[2] b; int block[2] v;").unwrap();
+    let (b, v) = (&listed.list[0], &listed.list[1]);
+    let mut memory = [0xaa; 16];
+    v.put(&mut memory, &Lanes::Int(vec![-1, 258])).unwrap();
+    b.put(&mut memory, &Lanes::Bool(vec![false, true])).unwrap();
+    assert_eq!(memory[..2], [0, 1]);
+    assert_eq!(memory[2..8], [0xaa; 6]);
+    assert_eq!(memory[8..], [255, 255, 255, 255, 2, 1, 0, 0]);
+    assert_eq!(v.lanes(&memory), Some(Lanes::Int(vec![-1, 258])));
+    assert_eq!(b.lanes(&[0, 200]), Some(Lanes::Bool(vec![false, true])));
+    assert_eq!(v.lanes(&memory[..15]), None);
+    assert_eq!(v.put(&mut memory, &Lanes::Int(vec![1])), Err(Misfit));
+    let eight = Lanes::Bool(vec![true; 8]);
+    assert_eq!(v.put(&mut memory, &eight), Err(Misfit));
+    assert_eq!(
+        v.put(&mut memory[..15], &Lanes::Int(vec![1, 2])),
+        Err(Misfit)
+    );
+    assert_eq!(v.lanes(&memory).unwrap().to_string(), "-1 258");
+}
+
+#[test]
+fn a_short_answer_slice_leaves_everything() {
+    let (mut memory, mut table, mut answer) = ([7; 4], [7; 16], [7; 15]);
+    assert_eq!(services::judge(b"int x = 1;", &mut answer), 0);
+    assert_eq!(services::run(b"int x = 1;", &mut memory, 9, &mut answer), 0);
+    assert_eq!(services::variables(b"int x;", &mut table, &mut answer), 0);
+    assert_eq!((memory, table, answer), ([7; 4], [7; 16], [7; 15]));
+}
