@@ -399,7 +399,7 @@ ready-start l = record {
   lengths-room = l .lengths-room;
 }
 
-module _ {text tree T U code₀ code kinds lengths : List ℕ} {end : ℕ} {all : Walked} (g : Lent text tree T code₀ kinds lengths) (l : Stmts) (w : Walks text U (take 0 code₀) code 0 end all (typed-statements 1 l (entries text T 0))) where
+module _ {text tree T U code₀ code kinds lengths : List ℕ} {all : Walked} (g : Lent text tree T code₀ kinds lengths) (l : Stmts) (w : Walks text U (take 0 code₀) code 0 (0 + length tree) all (typed-statements 1 l (entries text T 0))) where
   program-is : typed-program l ≡ typed-statements 1 l (entries text T 0)
   unfolding typed-program entries
   program-is = refl
@@ -412,14 +412,14 @@ module _ {text tree T U code₀ code kinds lengths : List ℕ} {end : ℕ} {all 
     accepted = λ n m z x. absurd (let y : _≡_ {A = ℕ} 0 1 = cc in omega arith);
   }
 
-  pub judge-ok : {n m z : ℕ} → all ≡ On n z → m ≡ need (entries text U n) → Judges text U code l (judged.Accepted n m z)
+  pub judge-ok : {n m z : ℕ} → all ≡ On n z → m ≡ need (entries text U n) → length code ≡ length code₀ → Judges text U code l (judged.Accepted n m z)
   unfolding judged-out
-  judge-ok {n} {m} {z} q e = record {
+  judge-ok {n} {m} {z} q e same = record {
     program = w .program;
     is = sym (program-is ∙ Outcomes.walks-ok w q);
     accepted = λ i j k x.
         let a : n ≡ i = cc in
         let b : m ≡ j = cc in
         let c : z ≡ k = cc in
-        rw (← a, ← b, ← c) (record { needs = e; rows = w .on n z q .rows; words = w .on n z q .words });
+        rw (← a, ← b, ← c) (record { needs = e; rows = w .on n z q .rows; fits = omega (arith, w .on n z q .room, g .code-room); words = w .on n z q .words });
   }

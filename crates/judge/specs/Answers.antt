@@ -99,10 +99,11 @@ pub record Lent (text tree table code kinds lengths : List ℕ) : Type 0 where
   pub kinds-room : stack-limit ≤ length kinds
   pub lengths-room : stack-limit ≤ length lengths
 
--- Of an accepted text: what it needs, that the table is as a run wants it, and its program's words.
+-- Of an accepted text: what it needs, that the table is as a run wants it, and its program's words, which the buffer has room for.
 pub record Accepts (text table code : List ℕ) (n m z : ℕ) (P : Program) : Type 0 where
   pub needs : m ≡ need (entries text table n)
   pub rows : Rows text table n
+  pub fits : z ≤ length code
   pub words : take z code ≡ program-words P
 
 -- The program l was judged as the definition says.

@@ -38,6 +38,6 @@ entries text table (suc n) = entries text table n ++ (entry text table n ∷ [])
 -- What a run needs of a table: the kind, the length and the address of each of the declarations Γ.
 pub record Lies (table : List ℕ) (Γ : Declarations) : Type 0 where
   pub room : length Γ * 6 ≤ length table
-  pub kind : (i : ℕ) → i < length Γ → word-of table i 2 ≡ kind-number ((declared Γ i) .kind)
+  pub kind : (i : ℕ) → i < length Γ → kind-of (word-of table i 2) ≡ (declared Γ i) .kind
   pub lanes : (i : ℕ) → i < length Γ → word-of table i 3 ≡ (declared Γ i) .lanes
   pub address : (i : ℕ) → i < length Γ → word-of table i 4 ≡ (declared Γ i) .address

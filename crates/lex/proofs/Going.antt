@@ -157,7 +157,7 @@ module _ {text kinds₀ places₀ values₀ kinds places values : List ℕ} {at 
   pub token-moves : {k w m : ℕ} → OneToken k w m ≡ lexeme at (piece (rest text at)) → (0 < m) × (at + m ≤ length text)
   token-moves h = let t = token-taken (token-at h) in (t .some-bytes, inside (t .within))
 
-  pub going-token : {k w m : ℕ} → OneToken k w m ≡ lexeme at (piece (rest text at)) → length text ≤ 4096 → Room kinds₀ places₀ values₀
+  pub going-token : {k w m : ℕ} → OneToken k w m ≡ lexeme at (piece (rest text at)) → length text ≤ 4096 → Room text kinds₀ places₀ values₀
       → Going text kinds₀ places₀ values₀ (set kinds n k) (set places n at) (set values n w) (at + m) (n + 1)
   going-token {k} {w} {m} h short room =
       let moves = token-moves h in
@@ -192,7 +192,7 @@ module _ {text kinds₀ places₀ values₀ kinds places values : List ℕ} {at 
 
 -- The end of the text, and a text that is too long.
 pub going-end : {text kinds₀ places₀ values₀ kinds places values : List ℕ} {at n : ℕ} → Going text kinds₀ places₀ values₀ kinds places values at n
-    → length text ≤ at → length text ≤ 4096 → Room kinds₀ places₀ values₀ → Lexes text (All (n + 1)) (set kinds n 0) (set places n at) (set values n 0)
+    → length text ≤ at → length text ≤ 4096 → Room text kinds₀ places₀ values₀ → Lexes text (All (n + 1)) (set kinds n 0) (set places n at) (set values n 0)
 going-end {text} {at = at} {n} g le short room =
     let last : at ≡ length text = omega arith in
     let long = length-append (g .so-far) (end-at at ∷ []) in

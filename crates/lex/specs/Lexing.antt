@@ -1,5 +1,5 @@
 -- What the lexer promises: its answer and the buffers are exactly the definition's tokens, or its refusal.
-use Prim.Native.Nat.{ℕ, suc, _+_, _≤_}
+use Prim.Native.Nat.{ℕ, suc, _+_, _≤_, _<_, min}
 use mathlib.Core.Path.{_≡_}
 use mathlib.Core.Bool.{Bool}
 use mathlib.Core.List.{List}
@@ -15,11 +15,11 @@ use Rattle.lex.specs.declared.Lexeme.the-variants.{Gap, Token as OneToke
 use Rattle.lex.specs.declared.Lexed.{Lexed}
 use Rattle.lex.specs.declared.Lexed.the-variants.{All, Refused}
 
--- An entry for each byte of the longest text, and one for the end.
-pub record Room (kinds places values : List ℕ) : Type 0 where
-  pub kinds-room : 4097 ≤ length kinds
-  pub places-room : 4097 ≤ length places
-  pub values-room : 4097 ≤ length values
+-- An entry for each byte of a text that is not too long, and one for the end.
+pub record Room (text kinds places values : List ℕ) : Type 0 where
+  pub kinds-room : min (length text) 4096 < length kinds
+  pub places-room : min (length text) 4096 < length places
+  pub values-room : min (length text) 4096 < length values
 
 -- What an answer says of a text of n bytes, where the buffers hold ts.
 abbrev pub outcome : ℕ → List Token → Lexed → Out ℕ (List Token)

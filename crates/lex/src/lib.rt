@@ -30,7 +30,7 @@ pub enum Lexed {
 
 // The text's tokens and its end into the three buffers, or the first refusal.
 pub fn lex(text: &[u8], kinds: &mut [u8], places: &mut [u32], values: &mut [u32]) -> Lexed
-    requires { ⌜ Room (now kinds) (now places) (now values) ⌝ }
+    requires { ⌜ Room (now text) (now kinds) (now places) (now values) ⌝ }
     ensures { λ r. ⌜ Lexes (now (text .entry)) r (now (kinds .exit)) (now (places .exit)) (now (values .exit)) ⌝ }
 {
     if TEXT_LIMIT < text.len() {

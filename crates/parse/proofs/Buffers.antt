@@ -1,5 +1,5 @@
 -- The buffers as the lexer leaves them are what the reader asks for.
-use Prim.Native.Nat.{ℕ, suc, _*_, _-_, _≤_, _<_}
+use Prim.Native.Nat.{ℕ, suc, _*_, _-_, _≤_, _<_, min}
 use mathlib.Core.Path.{_≡_, sym, ap, _∙_}
 use mathlib.Core.List.{List}
 use native.Mathlib.Omega.{arith}
@@ -58,7 +58,7 @@ module _ (text kinds places values : List ℕ) (n : ℕ) (l : Lexes text (All n)
       let t = spelled-last i (accepted .spelled) (omega (arith, l .count)) in
       getD-take n kinds i 0 m ∙ l .holds .row i (omega (arith, l .count)) .is ∙ ap (λ (t : Token). t .is) t ∙ the-end
 
-  pub lent : (tree : List ℕ) → 3 * text-limit ≤ length tree → Lent (take n kinds) (take n places) (take n values) tree
+  pub lent : (tree : List ℕ) → 3 * min (length text) text-limit ≤ length tree → Lent (take n kinds) (take n places) (take n values) tree
   lent tree room =
       let h = l .holds in
       let k = front kinds (h .kinds-room) in
@@ -69,5 +69,5 @@ module _ (text kinds places values : List ℕ) (n : ℕ) (l : Lexes text (All n)
         some = omega (arith, k, l .count, some);
         few = omega (arith, k, l .few, lexed-short text (l .is));
         ends = last-is-end (length (take n kinds) - 1) (omega (arith, k, l .count, some));
-        space = room;
+        space = omega (arith, k, l .few, room, lexed-short text (l .is));
       }

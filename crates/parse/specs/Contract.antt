@@ -1,5 +1,5 @@
 -- What parsing asks, and what its answer says.
-use Prim.Native.Nat.{ℕ, _*_, _≤_}
+use Prim.Native.Nat.{ℕ, _*_, _≤_, min}
 use mathlib.Core.Path.{_≡_}
 use mathlib.Core.List.{List}
 use lib.ListN.{length, take}
@@ -15,10 +15,10 @@ use Rattle.expressions.specs.declared.Reading.{Reading}
 use Rattle.expressions.specs.declared.Reading.the-variants.{Done}
 use Rattle.expressions.specs.Contract.{outcome}
 
--- The tokens and the tree of the longest text have room.
-pub record Room (kinds places values tree : List ℕ) : Type 0 where
-  pub tokens : L.Room kinds places values
-  pub words : 3 * text-limit ≤ length tree
+-- The tokens and the tree of a text that is not too long have room.
+pub record Room (text kinds places values tree : List ℕ) : Type 0 where
+  pub tokens : L.Room text kinds places values
+  pub words : 3 * min (length text) text-limit ≤ length tree
 
 -- What an answer says of a text: its tree is the definition's and stands in the first q words of the buffer, and the stages over it
 -- can go through it; or the definition refuses so.

@@ -13,7 +13,7 @@ pub fn parse(
     values: &mut [u32],
     tree: &mut [u32],
 ) -> Reading
-    requires { ⌜ Room (now kinds) (now places) (now values) (now tree) ⌝ }
+    requires { ⌜ Room (now text) (now kinds) (now places) (now values) (now tree) ⌝ }
     ensures { λ r. ⌜ Parses (now (text .entry)) (now (tree .exit)) r ⌝ }
 {
     match lex(text, kinds, places, values) {

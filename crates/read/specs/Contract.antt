@@ -74,7 +74,7 @@ pub record Lent (kinds places values tree : List ℕ) : Type 0 where
   pub some : 1 ≤ length kinds
   pub few : length kinds ≤ text-limit + 1
   pub ends : getD kinds (length kinds - 1) 0 ≡ 0
-  pub space : 3 * text-limit ≤ length tree
+  pub space : 3 * length kinds ≤ length tree + 3
 
 -- What a text is, by an answer r and the words of the tree.
 pub record Told (o : Out ℕ Stmts) (tree : List ℕ) (r : Reading) : Type 0 where

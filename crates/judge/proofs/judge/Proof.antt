@@ -59,7 +59,7 @@ returns-2 c =
     let all = c .before .before .before .all in
     let statements = c .before .before .before .before .before .before .before .before .before .before .before .before .before .statements in
     let start = c .before .before .before .before .before .before .before .before .before .before .before .before .before .before .before .before .before .before .before .before .before .before .before .before in
-    λ l x. judge-ok (start .pre .0) l (statements .ensures l x) (all .given .1) (c .need .ensures (start .args .text .now))
+    λ l x. judge-ok (start .pre .0) l (statements .ensures l x) (all .given .1) (c .need .ensures (start .args .text .now)) (search needs)
 
 pub judge-spec : {M : Type 1} → statement M
 judge-spec =

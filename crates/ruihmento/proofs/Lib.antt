@@ -1,0 +1,5 @@
+pub mod Slices
+pub mod Judging
+pub mod Listing
+pub mod Ready
+pub mod Running

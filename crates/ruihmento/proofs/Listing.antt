@@ -1,0 +1,67 @@
+-- What the verdict of a text makes of the listing of its variables.
+use Prim.Native.Nat.{ℕ, zero, suc, _*_, _≤_, _<_}
+use mathlib.Core.Path.{_≡_, refl, sym, ap, ap₂, _∙_}
+use mathlib.Core.Bool.{Bool, true, false}
+use mathlib.Core.List.{List, [], _∷_, _++_, map, map-append}
+use native.Mathlib.Omega.{arith}
+use lib.Dec.{leb}
+use lib.ListN.{length, drop}
+use Rattle.meaning.specs.declared.Refusal.{Refusal}
+use Rattle.meaning.specs.Codes.{code, if_then_else_}
+use Rattle.meaning.specs.Memory.{Declared, Declarations, need}
+use Rattle.meaning.specs.Services.{Answer, answer, judged, verdict, sixteen, kind-number, listed, table-of, variables, variables-call}
+use Rattle.layout.specs.Table.{entry, entries}
+use Rattle.typing.proofs.Names.{length-entries}
+use Rattle.judge.specs.declared.Judged.the-variants.{Accepted, Refused}
+use Rattle.verdict.specs.Contract.{Gives}
+use Rattle.ruihmento.specs.Promise.{Kept, with-answer}
+use Rattle.ruihmento.proofs.Slices.{not-called, told}
+use Rattle.ruihmento.proofs.Judging.{is-refused, is-accepted, accepts}
+
+-- A record of the listing has no name in it.
+nameless : Declared → Declared
+nameless d = record { name = []; place = d .place; kind = d .kind; lanes = d .lanes; address = d .address; open? = d .open? }
+
+listed-nameless : (Γ : Declarations) (l : List ℕ) → listed (map nameless Γ) l ≡ listed Γ l
+unfolding listed nameless
+listed-nameless [] l = refl
+listed-nameless (d ∷ Γ) l = rw (listed-nameless Γ (drop 16 l))
+
+entries-nameless : (text table : List ℕ) (n : ℕ) → map nameless (entries text table n) ≡ map nameless (entries [] table n)
+unfolding entries entry nameless
+entries-nameless text table zero = refl
+entries-nameless text table (suc n) =
+    rw (map-append nameless (entries text table n), map-append nameless (entries [] table n), entries-nameless text table n)
+
+-- So the text does not matter to it.
+listed-entries : (text table : List ℕ) (n : ℕ) (l : List ℕ) → listed (entries [] table n) l ≡ listed (entries text table n) l
+listed-entries text table n l =
+    sym (listed-nameless (entries [] table n) l)
+    ∙ ap (λ (Γ : Declarations). listed Γ l) (sym (entries-nameless text table n))
+    ∙ listed-nameless (entries text table n) l
+
+-- A slice without room.
+pub variables-not-called : (text table slice : List ℕ) → length slice < 16 → Kept (variables-call text table slice) 0 slice table
+unfolding variables-call
+variables-not-called text table slice h = not-called slice table _ h
+
+module _ {text rows words : List ℕ} where
+  pub variables-refused : {c : Refusal} {p : ℕ} → Gives text rows words (Refused c p) → (table slice : List ℕ) {written : List ℕ}
+      → 16 ≤ length slice → written ≡ with-answer (code c) p 0 0 slice → Kept (variables-call text table slice) 1 written table
+  unfolding variables-call variables verdict table-of
+  variables-refused {c} {p} g table slice h w = told slice table _ (code c) p 0 0 h (rw (is-refused g)) w
+
+  module _ {n m z : ℕ} (g : Gives text rows words (Accepted n m z)) where
+    -- A table of at most 64 declarations, with room for them.
+    pub few-rows : n ≤ 64
+    few-rows = accepts g .rows .few
+
+    pub rows-room : (n ≤ 64) × (n * 6 ≤ length rows)
+    rows-room = (few-rows, omega (arith, few-rows, accepts g .rows .room))
+
+    pub variables-accepted : (table slice : List ℕ) {after written : List ℕ} → 16 ≤ length slice → after ≡ listed (entries [] rows n) table → written ≡ with-answer 0 0 m n slice
+        → Kept (variables-call text table slice) 1 written after
+    unfolding variables-call variables verdict table-of
+    variables-accepted table slice h e w =
+        told slice table _ 0 0 m n h
+        (rw (is-accepted g, accepts g .needs, length-entries text rows n, e, listed-entries text rows n table)) w

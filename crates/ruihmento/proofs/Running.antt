@@ -1,0 +1,84 @@
+-- What a verdict, and how a run ended, make of the run's answer.
+use Prim.Native.Nat.{ℕ, _*_, _-_, _≤_, _<_}
+use mathlib.Core.Path.{_≡_, refl, sym, ap, _∙_}
+use mathlib.Core.Bool.{true, false}
+use mathlib.Core.List.{List, [], _∷_}
+use native.Mathlib.Omega.{arith}
+use lib.Dec.{leb}
+use lib.ListN.{length}
+use borrow.Author.Tests.{le-leb, lt-leb}
+use Rattle.meaning.specs.declared.Refusal.{Refusal}
+use Rattle.meaning.specs.declared.Refusal.the-variants.{MemoryTooShort, BudgetSpent}
+use Rattle.meaning.specs.Codes.{code, Out, ok, refused, if_then_else_}
+use Rattle.meaning.specs.Program.{Program}
+use Rattle.meaning.specs.Memory.{Memory, Declarations, need, fetch, update}
+use Rattle.meaning.specs.Running as R
+use Rattle.meaning.specs.Running.{Ran, spent, done}
+use Rattle.meaning.specs.Services.{Answer, answer, ended, executed, run, run-call}
+use Rattle.layout.specs.Table.{entries}
+use Rattle.engine.specs.declared.Ended.{Ended}
+use Rattle.engine.specs.declared.Ended.the-variants.{Done, Spent}
+use Rattle.engine.specs.Ending.{ran}
+use Rattle.engine.specs.Runs.{Runs}
+use Rattle.engine.proofs.Budgets.{leaves-less}
+use Rattle.judge.specs.declared.Judged.the-variants.{Accepted, Refused}
+use Rattle.verdict.specs.Contract.{Gives}
+use Rattle.ruihmento.specs.Promise.{Kept, with-answer, Prepared, Leaves}
+use Rattle.ruihmento.proofs.Slices.{not-called, told}
+use Rattle.ruihmento.proofs.Judging.{is-refused, is-accepted}
+use Rattle.ruihmento.proofs.Ready.{prepared}
+
+-- With the memory that it needs, a program runs.
+pub runs : {words table : List ℕ} {m : ℕ} {Γ : Declarations} {P : Program} → Prepared words table m Γ P → (bytes : ℕ) → m ≤ bytes → Runs words table bytes 32 1 Γ P
+runs p bytes enough = p .runs bytes (omega (arith, p .needs))
+
+pub a-run : {words table : List ℕ} {m : ℕ} → (Γ : Declarations) × (P : Program) × Prepared words table m Γ P → (bytes : ℕ) → m ≤ bytes → (Γ : Declarations) × (P : Program) × Runs words table bytes 32 1 Γ P
+a-run p bytes enough = (p .0, p .1, runs (p .2) bytes enough)
+
+module _ {words table : List ℕ} {m : ℕ} {Γ : Declarations} {P : Program} (p : Prepared words table m Γ P) (M : Memory) (budget : ℕ) where
+  -- Code 12.
+  pub leaves-short : length M < m → (slice : List ℕ) {written : List ℕ} {k : ℕ} → k ≡ code MemoryTooShort → written ≡ with-answer k 0 m 0 slice → Leaves (executed M budget (ok P Γ)) slice written M
+  unfolding executed answer
+  leaves-short h slice k w =
+      let short : length M < need Γ = omega (arith, p .needs) in
+      rw (lt-leb (need Γ) (length M) short) (record { written-is = rw (w, k, p .needs); after-is = refl })
+
+  module _ (enough : m ≤ length M) where
+    executed-is : executed M budget (ok P Γ) ≡ ended (need Γ) budget (R.run (fetch Γ) (update Γ) P (true ∷ []) budget M)
+    unfolding executed
+    executed-is = let fits : need Γ ≤ length M = omega (arith, p .needs) in rw (le-leb (need Γ) (length M) fits)
+
+    module _ (r : Ended) (after : Memory) (e : ran r after ≡ R.run (fetch Γ) (update Γ) P (true ∷ []) budget M) where
+      ended-is : executed M budget (ok P Γ) ≡ ended m budget (ran r after)
+      ended-is = executed-is ∙ rw (e, p .needs)
+
+      -- Code 13.
+      pub leaves-spent : {place : ℕ} → r ≡ Spent place → (slice : List ℕ) {written : List ℕ} {k : ℕ} → k ≡ code BudgetSpent → written ≡ with-answer k place m budget slice → Leaves (executed M budget (ok P Γ)) slice written after
+      unfolding ended answer
+      leaves-spent q slice k w = rw (ended-is, q) (record { written-is = rw (w, k); after-is = refl })
+
+      -- No more steps are left than there were.
+      pub some-left : {left : ℕ} → r ≡ Done left → left ≤ budget
+      some-left {left} q = leaves-less (fetch Γ) (update Γ) P (true ∷ []) budget M after left (rw q at e)
+
+      -- Code 0.
+      pub leaves-done : {left : ℕ} → r ≡ Done left → (slice : List ℕ) {written : List ℕ} → written ≡ with-answer 0 0 m (budget - left) slice → Leaves (executed M budget (ok P Γ)) slice written after
+      unfolding ended answer
+      leaves-done q slice w = rw (ended-is, q) (record { written-is = w; after-is = refl })
+
+-- A slice without room.
+pub run-not-called : (text : List ℕ) (M : Memory) (budget : ℕ) (slice : List ℕ) → length slice < 16 → Kept (run-call text M budget slice) 0 slice M
+unfolding run-call
+run-not-called text M budget slice h = not-called slice M _ h
+
+module _ {text table words : List ℕ} (M : Memory) (budget : ℕ) (slice : List ℕ) (h : 16 ≤ length slice) where
+  pub run-refused : {c : Refusal} {p : ℕ} → Gives text table words (Refused c p) → {written : List ℕ} → written ≡ with-answer (code c) p 0 0 slice → Kept (run-call text M budget slice) 1 written M
+  unfolding run-call run executed
+  run-refused {c} {p} g w = told slice M _ (code c) p 0 0 h (rw (is-refused g)) w
+
+  pub run-accepted : {n m z : ℕ} (g : Gives text table words (Accepted n m z)) {written : List ℕ} {after : Memory}
+      → Leaves (executed M budget (ok (g .program) (entries text table n))) slice written after → Kept (run-call text M budget slice) 1 written after
+  unfolding run-call run answer
+  run-accepted {n} g l =
+      let o = executed M budget (ok (g .program) (entries text table n)) in
+      told slice M _ (o .0 .code) (o .0 .place) (o .0 .need) (o .0 .steps) h (rw (is-accepted g, l .after-is)) (l .written-is)

@@ -1,0 +1,28 @@
+-- What a verdict asks of its buffers, and what it says of a text.
+use Prim.Native.Nat.{ℕ, _*_, _≤_}
+use mathlib.Core.Path.{_≡_}
+use mathlib.Core.List.{List}
+use lib.ListN.{length}
+use Rattle.meaning.specs.Codes.{text-limit}
+use Rattle.meaning.specs.Program.{Program}
+use Rattle.meaning.specs.Services.{judged}
+use Rattle.layout.specs.Sound.{stack-limit}
+use Rattle.parse.specs.Contract as P
+use Rattle.judge.specs.declared.Judged.{Judged}
+use Rattle.judge.specs.declared.Judged.the-variants.{Accepted}
+use Rattle.judge.specs.Answers.{judged-out, Accepts}
+
+-- The tokens, the tree, the declarations and the program of a text that is not too long have room.
+pub record Room (text tokens places values tree table code kinds lengths : List ℕ) : Type 0 where
+  pub parsing : P.Room text tokens places values tree
+  pub few : length tree ≤ 3 * text-limit
+  pub table-room : 384 ≤ length table
+  pub code-room : length tree ≤ length code
+  pub kinds-room : stack-limit ≤ length kinds
+  pub lengths-room : stack-limit ≤ length lengths
+
+-- The text was judged as the definition says; of an accepted one, the table and the code are as a run wants them.
+pub record Gives (text table code : List ℕ) (r : Judged) : Type 0 where
+  pub program : Program
+  pub is : judged text ≡ judged-out r program text table
+  pub accepted : (n m z : ℕ) → r ≡ Accepted n m z → Accepts text table code n m z program
