@@ -4,3 +4,4 @@ pub mod Listed
 pub mod Outcomes
 pub mod Walk
 pub mod Sequence
+pub mod Coincide

@@ -286,10 +286,10 @@ fn plain(
     requires { ⌜ There-is (Plain (now text) (now tree) kind) ⌝ }
     ensures { λ r. ⌜ ((s : Stmt) → Plain (now (text .entry)) (now (tree .entry)) kind s → Walks (now (text .entry)) (now (table .exit)) (take size (now (code .entry))) (now (code .exit)) count (size + length (now (tree .entry))) r (T.typed-statement context s (entries (now (text .entry)) (now (table .entry)) count))) ⌝ }
 {
-    let length = length_or(tree[3], 1);
+    let lanes = length_or(tree[3], 1);
     let place = word(tree, 5);
     let end = word(tree, 6);
-    let new = typing::declare(text, table, count, context, kind, length, place, end);
+    let new = typing::declare(text, table, count, context, kind, lanes, place, end);
     let Typing::Typed {
         kind: _,
         length: _,
@@ -838,9 +838,6 @@ pub fn judge(
     let Walked::On { count, size } = all else {
         return refused(all);
     };
-    Judged::Accepted {
-        count,
-        need: typing::need(table, count),
-        size,
-    }
+    let need = typing::need(table, count);
+    Judged::Accepted { count, need, size }
 }
