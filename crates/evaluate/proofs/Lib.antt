@@ -2,6 +2,7 @@ pub mod Stacks
 pub mod Parts
 pub mod Loads
 pub mod Applied
+pub mod Waiting
 pub mod Units
 pub mod Declared
 pub mod Steps
