@@ -1,0 +1,4 @@
+pub mod Printing
+pub mod Numbers
+pub mod Rows
+pub mod Page

@@ -1,0 +1,62 @@
+-- A page: its line and its rows, how long it can be, and what of the lent bytes it is. Assumes nothing.
+use Prim.Native.Nat.{ℕ, zero, suc, _+_, _*_, _%_, _^_, _≤_, _<_}
+use mathlib.Core.Path.{_≡_}
+use mathlib.Core.List.{List, _++_}
+use native.Mathlib.Omega.{arith}
+use lib.ListN.{length, take, drop, length-append, length-take}
+use lib.Seq.{sets-eq, take-at}
+use Rattle.meaning.specs.Tokens.{bytes}
+use Rattle.meaning.specs.Memory.{Memory, little-endian, number-of}
+use Rattle.meaning.specs.Services.{Answer, answer, sixteen}
+use Rattle.print.specs.Printed.{Printed}
+use Rattle.print.specs.Shown.{held, line, rows, row-count, shown}
+use Rattle.print.proofs.Printing.{printed-both}
+use Rattle.print.proofs.Numbers.{ten-digits, line-length}
+use Rattle.print.proofs.Rows.{hex-length}
+
+-- The numbers p, q, r, s that were read from the answer slice l are the answer that it holds.
+pub record Numbers (l : List ℕ) (p q r s : ℕ) : Type 0 where
+  pub code : p ≡ number-of (take 4 l)
+  pub place : q ≡ number-of (take 4 (drop 4 l))
+  pub need : r ≡ number-of (take 4 (drop 8 l))
+  pub steps : s ≡ number-of (take 4 (drop 12 l))
+
+pub held-is : {l : List ℕ} {p q r s : ℕ} → Numbers l p q r s → answer p q r s ≡ held l
+unfolding held
+held-is n = rw (n .code, n .place, n .need, n .steps)
+
+-- A page is as long as its line and its rows.
+pub shown-length : (a : Answer) (M : Memory) → length (shown (a, M)) ≡ length (line a) + length (rows (row-count M) M)
+unfolding shown
+shown-length a M = length-append (line a) (rows (row-count M) M)
+
+-- The line, then the rows.
+pub shown-both : (u : Answer) (M : Memory) {a b c : List ℕ} {i j k : ℕ} → Printed a i (line u) b j → Printed b j (rows (row-count M) M) c k → Printed a i (shown (u, M)) c k
+unfolding shown
+shown-both u M p q = printed-both p q
+
+-- A row has at most 33 bytes, so the page of a memory of 4,096 bytes has at most four numbers of ten digits, each with the
+-- byte that ends it, and 256 rows.
+rows-length : (k : ℕ) (M : Memory) → length (rows k M) ≤ 33 * k
+unfolding rows bytes
+rows-length zero M = omega arith
+rows-length (suc k) M = simp length-append (omega (arith, hex-length (take 16 M), length-take 16 M, rows-length k (drop 16 M)))
+
+pub shown-fits : (c p n s : ℕ) (M : Memory) → c < 2 ^ 32 → p < 2 ^ 32 → n < 2 ^ 32 → s < 2 ^ 32 → length M ≤ 4096
+    → length (shown (answer c p n s, M)) ≤ 8492
+unfolding row-count
+shown-fits c p n s M hc hp hn hs short =
+    omega (arith, shown-length (answer c p n s) M, line-length c p n s, ten-digits c hc, ten-digits p hp, ten-digits n hn, ten-digits s hs, rows-length (row-count M) M)
+
+-- What is printed from the page's start on is its first bytes.
+pub page-start : {a b : List ℕ} {r : ℕ} {u : List ℕ} → Printed a 0 u b r → length u ≤ length a → take r b ≡ u
+page-start {a} {b} {r} {u} p room = rw (p .page-is, sets-eq u a 0 (omega arith)) (take-at u (drop (0 + length u) a) r (omega (arith, p .next-is)))
+
+read-back : (n : ℕ) → number-of (little-endian 4 n) ≡ n % 2 ^ 32
+unfolding number-of little-endian
+read-back n = omega arith
+
+-- Four numbers in an answer slice, as they are read back: 32 bits each.
+pub held-words : (c p n s : ℕ) (l : List ℕ) → held (sixteen c p n s ++ l) ≡ answer (c % 2 ^ 32) (p % 2 ^ 32) (n % 2 ^ 32) (s % 2 ^ 32)
+unfolding held sixteen little-endian number-of
+held-words c p n s l = rw (read-back c, read-back p, read-back n, read-back s)

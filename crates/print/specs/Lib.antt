@@ -1,0 +1,3 @@
+pub mod Shown
+pub mod Printed
+pub mod Example
