@@ -14,8 +14,8 @@ use Rattle.layout.specs.Table.{entry, entries}
 use Rattle.typing.proofs.Names.{length-entries}
 use Rattle.judge.specs.declared.Judged.the-variants.{Accepted, Refused}
 use Rattle.verdict.specs.Contract.{Gives}
-use Rattle.ruihmento.specs.Promise.{Kept, with-answer}
-use Rattle.ruihmento.proofs.Slices.{not-called, told}
+use Rattle.ruihmento.specs.Promise.{Kept, with-answer, Leaves}
+use Rattle.ruihmento.proofs.Slices.{not-called, kept, leaves}
 use Rattle.ruihmento.proofs.Judging.{is-refused, is-accepted, accepts}
 
 -- A record of the listing has no name in it.
@@ -45,11 +45,15 @@ pub variables-not-called : (text table slice : List ℕ) → length slice < 16 �
 unfolding variables-call
 variables-not-called text table slice h = not-called slice table _ h
 
+-- A slice with room.
+pub variables-called : (text table slice : List ℕ) {written after : List ℕ} → 16 ≤ length slice → Leaves (variables text table) slice written after → Kept (variables-call text table slice) 1 written after
+unfolding variables-call
+variables-called text table slice h l = kept slice table _ h l
+
 module _ {text rows words : List ℕ} where
-  pub variables-refused : {c : Refusal} {p : ℕ} → Gives text rows words (Refused c p) → (table slice : List ℕ) {written : List ℕ}
-      → 16 ≤ length slice → written ≡ with-answer (code c) p 0 0 slice → Kept (variables-call text table slice) 1 written table
-  unfolding variables-call variables verdict table-of
-  variables-refused {c} {p} g table slice h w = told slice table _ (code c) p 0 0 h (rw (is-refused g)) w
+  pub variables-refused : {c : Refusal} {p : ℕ} → Gives text rows words (Refused c p) → (table : List ℕ) {slice written : List ℕ} → written ≡ with-answer (code c) p 0 0 slice → Leaves (variables text table) slice written table
+  unfolding variables verdict table-of
+  variables-refused {c} {p} g table w = leaves _ (code c) p 0 0 (rw (is-refused g)) w
 
   module _ {n m z : ℕ} (g : Gives text rows words (Accepted n m z)) where
     -- A table of at most 64 declarations, with room for them.
@@ -59,9 +63,6 @@ module _ {text rows words : List ℕ} where
     pub rows-room : (n ≤ 64) × (n * 6 ≤ length rows)
     rows-room = (few-rows, omega (arith, few-rows, accepts g .rows .room))
 
-    pub variables-accepted : (table slice : List ℕ) {after written : List ℕ} → 16 ≤ length slice → after ≡ listed (entries [] rows n) table → written ≡ with-answer 0 0 m n slice
-        → Kept (variables-call text table slice) 1 written after
-    unfolding variables-call variables verdict table-of
-    variables-accepted table slice h e w =
-        told slice table _ 0 0 m n h
-        (rw (is-accepted g, accepts g .needs, length-entries text rows n, e, listed-entries text rows n table)) w
+    pub variables-accepted : (table : List ℕ) {slice after written : List ℕ} → after ≡ listed (entries [] rows n) table → written ≡ with-answer 0 0 m n slice → Leaves (variables text table) slice written after
+    unfolding variables verdict table-of
+    variables-accepted table e w = leaves _ 0 0 m n (rw (is-accepted g, accepts g .needs, length-entries text rows n, e, listed-entries text rows n table)) w

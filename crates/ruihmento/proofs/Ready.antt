@@ -130,5 +130,8 @@ module _ {text table words : List ℕ} {n m z : ℕ} (g : Gives text table words
   pub words-counted : z ≡ length (take z words)
   words-counted = sym (length-take-le z words words-fit)
 
+  pub words-in : (n : ℕ) → length words ≡ n → length (take z words) ≤ n
+  words-in n e = omega (arith, words-fit, words-counted)
+
   pub a-program : (Γ : Declarations) × (P : Program) × Prepared (take z words) table m Γ P
   a-program = (entries text table n, g .program, prepared)

@@ -1,32 +1,65 @@
 -- What a verdict, and how a run ended, make of the run's answer.
-use Prim.Native.Nat.{ℕ, _*_, _-_, _≤_, _<_}
+use Prim.Native.Nat.{ℕ, _+_, _*_, _/_, _-_, _≤_, _<_, min}
 use mathlib.Core.Path.{_≡_, refl, sym, ap, _∙_}
 use mathlib.Core.Bool.{true, false}
 use mathlib.Core.List.{List, [], _∷_}
 use native.Mathlib.Omega.{arith}
 use lib.Dec.{leb}
-use lib.ListN.{length}
+use lib.ListN.{length, take}
+use lib.Seq.{length-take-le}
 use borrow.Author.Tests.{le-leb, lt-leb}
 use Rattle.meaning.specs.declared.Refusal.{Refusal}
 use Rattle.meaning.specs.declared.Refusal.the-variants.{MemoryTooShort, BudgetSpent}
-use Rattle.meaning.specs.Codes.{code, Out, ok, refused, if_then_else_}
+use Rattle.meaning.specs.Codes.{code, Out, ok, refused, if_then_else_, text-limit, nesting-limit}
 use Rattle.meaning.specs.Program.{Program}
 use Rattle.meaning.specs.Memory.{Memory, Declarations, need, fetch, update}
 use Rattle.meaning.specs.Running as R
 use Rattle.meaning.specs.Running.{Ran, spent, done}
 use Rattle.meaning.specs.Services.{Answer, answer, ended, executed, run, run-call}
 use Rattle.layout.specs.Table.{entries}
+use Rattle.layout.specs.Sound.{stack-limit}
+use Rattle.evaluate.specs.Stack.{waiting}
+use Rattle.evaluate.proofs.Waiting.{waiting-fewer, waiting-limit}
 use Rattle.engine.specs.declared.Ended.{Ended}
 use Rattle.engine.specs.declared.Ended.the-variants.{Done, Spent}
 use Rattle.engine.specs.Ending.{ran}
 use Rattle.engine.specs.Runs.{Runs}
 use Rattle.engine.proofs.Budgets.{leaves-less}
 use Rattle.judge.specs.declared.Judged.the-variants.{Accepted, Refused}
-use Rattle.verdict.specs.Contract.{Gives}
-use Rattle.ruihmento.specs.Promise.{Kept, with-answer, Prepared, Leaves}
-use Rattle.ruihmento.proofs.Slices.{not-called, told}
+use Rattle.verdict.specs.Contract.{Lent, Gives}
+use Rattle.ruihmento.specs.Promise.{Kept, with-answer, Scratch, Prepared, Leaves}
+use Rattle.ruihmento.proofs.Slices.{not-called, kept, leaves}
 use Rattle.ruihmento.proofs.Judging.{is-refused, is-accepted}
 use Rattle.ruihmento.proofs.Ready.{prepared}
+
+-- Buffers of so many words for the program and for the scratch, for texts of which that is enough.
+pub scratched : {text scratch code slice : List ℕ} (n k : ℕ) → 3 * min (length text) 4096 ≤ n → n ≤ 12288 → n ≤ k → min 232 ((n + 3) / 6) * 64 ≤ k → length scratch ≡ k → length code ≡ n → 16 ≤ length slice → Scratch text scratch code slice
+unfolding text-limit waiting stack-limit nesting-limit
+scratched n k room few tree registers s c h = record {
+  code-room = omega arith;
+  few = omega arith;
+  tree-room = omega arith;
+  registers-room = rw (s, c) registers;
+  answer-room = h;
+}
+
+-- The first words of the scratch are as many as the program's, and hold the tree.
+pub counted : (n : ℕ) (b : List ℕ) → n ≤ length b → n ≡ length (take n b)
+counted n b h = sym (length-take-le n b h)
+
+module _ {text scratch code slice : List ℕ} (lent : Scratch text scratch code slice) where
+  pub tree-lent : {table : List ℕ} → length table ≡ 384 → Lent text (take (length code) scratch) table code
+  tree-lent e =
+      let n = counted (length code) scratch (lent .tree-room) in
+      record { tree-room = rw (← n) (lent .code-room); few = rw (← n) (lent .few); table-room = omega arith; code-room = omega arith }
+
+  -- A program in fewer words has registers enough.
+  pub registers-lent : (w k : ℕ) → w ≤ length code → k ≡ length scratch → waiting w * 64 ≤ k
+  registers-lent w k h same = let f = waiting-fewer h in omega (arith, lent .registers-room)
+
+-- No more values wait than the longest expression has.
+pub waiting-room : (n : ℕ) {k : ℕ} → k ≡ 232 → waiting n ≤ k
+waiting-room n e = omega (arith, waiting-limit n)
 
 -- With the memory that it needs, a program runs.
 pub runs : {words table : List ℕ} {m : ℕ} {Γ : Declarations} {P : Program} → Prepared words table m Γ P → (bytes : ℕ) → m ≤ bytes → Runs words table bytes 32 1 Γ P
@@ -71,14 +104,17 @@ pub run-not-called : (text : List ℕ) (M : Memory) (budget : ℕ) (slice : List
 unfolding run-call
 run-not-called text M budget slice h = not-called slice M _ h
 
-module _ {text table words : List ℕ} (M : Memory) (budget : ℕ) (slice : List ℕ) (h : 16 ≤ length slice) where
-  pub run-refused : {c : Refusal} {p : ℕ} → Gives text table words (Refused c p) → {written : List ℕ} → written ≡ with-answer (code c) p 0 0 slice → Kept (run-call text M budget slice) 1 written M
-  unfolding run-call run executed
-  run-refused {c} {p} g w = told slice M _ (code c) p 0 0 h (rw (is-refused g)) w
+-- A slice with room.
+pub run-called : (text : List ℕ) (M : Memory) (budget : ℕ) (slice : List ℕ) {written : List ℕ} {after : Memory} → 16 ≤ length slice → Leaves (run text M budget) slice written after → Kept (run-call text M budget slice) 1 written after
+unfolding run-call
+run-called text M budget slice h l = kept slice M _ h l
 
-  pub run-accepted : {n m z : ℕ} (g : Gives text table words (Accepted n m z)) {written : List ℕ} {after : Memory}
-      → Leaves (executed M budget (ok (g .program) (entries text table n))) slice written after → Kept (run-call text M budget slice) 1 written after
-  unfolding run-call run answer
-  run-accepted {n} g l =
-      let o = executed M budget (ok (g .program) (entries text table n)) in
-      told slice M _ (o .0 .code) (o .0 .place) (o .0 .need) (o .0 .steps) h (rw (is-accepted g, l .after-is)) (l .written-is)
+module _ {text table words : List ℕ} (M : Memory) (budget : ℕ) where
+  pub run-refused : {c : Refusal} {p : ℕ} → Gives text table words (Refused c p) → (slice : List ℕ) {written : List ℕ} → written ≡ with-answer (code c) p 0 0 slice → Leaves (run text M budget) slice written M
+  unfolding run executed
+  run-refused {c} {p} g slice w = leaves _ (code c) p 0 0 (rw (is-refused g)) w
+
+  pub run-accepted : {n m z : ℕ} (g : Gives text table words (Accepted n m z)) (slice : List ℕ) {written : List ℕ} {after : Memory}
+      → Leaves (executed M budget (ok (g .program) (entries text table n))) slice written after → Leaves (run text M budget) slice written after
+  unfolding run
+  run-accepted g slice l = rw (is-accepted g) l

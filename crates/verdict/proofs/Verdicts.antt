@@ -21,9 +21,10 @@ use Rattle.parse.specs.Contract.{Parses}
 use Rattle.typing.specs.Answers.{There-is}
 use Rattle.judge.specs.declared.Judged.{Judged}
 use Rattle.judge.specs.declared.Judged.the-variants.{Accepted, Refused}
-use Rattle.judge.specs.Answers.{judged-out, Lent, Judges}
+use Rattle.judge.specs.Answers.{judged-out, Judges}
+use Rattle.judge.specs.Answers as J
 use Rattle.judge.specs.Shapes.{Statements}
-use Rattle.verdict.specs.Contract.{Room, Gives}
+use Rattle.verdict.specs.Contract.{Lent, Room, Gives}
 
 -- Two passes and then a third are one and then the other two.
 pass-pass : {S T U A B D : Type 0} (o : Out S A) (f : A → Out T B) (g : B → Out U D) → pass o (λ a. pass (f a) g) ≡ pass (pass o f) g
@@ -68,13 +69,13 @@ module _ {text tree : List ℕ} (p q : ℕ) (l : Parses text tree (reading.Done 
   a-tree = record { the = l .what; is = read-tree }
 
   -- The buffers have the room that the judge asks for: parsing leaves them as long as they were.
-  pub lent : {tokens places values old table code kinds lengths : List ℕ} → Room text tokens places values old table code kinds lengths → length tree ≡ length old → Lent text (take q tree) table code kinds lengths
+  pub lent : {tokens places values old table code kinds lengths : List ℕ} → Room text tokens places values old table code kinds lengths → length tree ≡ length old → J.Lent text (take q tree) table code kinds lengths
   unfolding text-limit
   lent room same = record {
     short = l .short p q refl;
-    few = omega (arith, counted, fits, room .few);
-    table-room = room .table-room;
-    code-room = omega (arith, counted, fits, room .code-room);
+    few = omega (arith, counted, fits, room .lent .few);
+    table-room = room .lent .table-room;
+    code-room = omega (arith, counted, fits, room .lent .code-room);
     kinds-room = room .kinds-room;
     lengths-room = room .lengths-room;
   }
@@ -90,16 +91,14 @@ module _ {text tree : List ℕ} (p q : ℕ) (l : Parses text tree (reading.Done 
         accepted = j .accepted;
       }
 
--- Buffers for texts of at most n bytes.
-pub roomy : {text tokens places values tree table code kinds lengths : List ℕ} (n : ℕ) → min (length text) 4096 ≤ n → n ≤ 4096
-    → length tokens ≡ suc n → length places ≡ suc n → length values ≡ suc n → length tree ≡ 3 * n → 384 ≤ length table → 3 * n ≤ length code → length kinds ≡ 232 → length lengths ≡ 232
+-- Buffers for the tokens of texts of at most n bytes.
+pub roomy : {text tokens places values tree table code kinds lengths : List ℕ} (n : ℕ) → Lent text tree table code → min (length text) 4096 ≤ n
+    → length tokens ≡ suc n → length places ≡ suc n → length values ≡ suc n → length kinds ≡ 232 → length lengths ≡ 232
     → Room text tokens places values tree table code kinds lengths
-unfolding text-limit stack-limit nesting-limit
-roomy n short few a b c d e f g h = record {
-  parsing = record { tokens = record { kinds-room = omega arith; places-room = omega arith; values-room = omega arith }; words = omega arith };
-  few = omega arith;
-  table-room = e;
-  code-room = omega arith;
+unfolding stack-limit nesting-limit
+roomy n lent short a b c g h = record {
+  lent = lent;
+  tokens-room = record { kinds-room = omega arith; places-room = omega arith; values-room = omega arith };
   kinds-room = omega arith;
   lengths-room = omega arith;
 }

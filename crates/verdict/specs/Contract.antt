@@ -1,5 +1,5 @@
 -- What a verdict asks of its buffers, and what it says of a text.
-use Prim.Native.Nat.{ℕ, _*_, _≤_}
+use Prim.Native.Nat.{ℕ, _*_, _≤_, min}
 use mathlib.Core.Path.{_≡_}
 use mathlib.Core.List.{List}
 use lib.ListN.{length}
@@ -7,17 +7,22 @@ use Rattle.meaning.specs.Codes.{text-limit}
 use Rattle.meaning.specs.Program.{Program}
 use Rattle.meaning.specs.Services.{judged}
 use Rattle.layout.specs.Sound.{stack-limit}
-use Rattle.parse.specs.Contract as P
+use Rattle.lex.specs.Lexing as L
 use Rattle.judge.specs.declared.Judged.{Judged}
 use Rattle.judge.specs.declared.Judged.the-variants.{Accepted}
 use Rattle.judge.specs.Answers.{judged-out, Accepts}
 
--- The tokens, the tree, the declarations and the program of a text that is not too long have room.
-pub record Room (text tokens places values tree table code kinds lengths : List ℕ) : Type 0 where
-  pub parsing : P.Room text tokens places values tree
+-- The tree, the declarations and the program of a text that is not too long have room.
+pub record Lent (text tree table code : List ℕ) : Type 0 where
+  pub tree-room : 3 * min (length text) text-limit ≤ length tree
   pub few : length tree ≤ 3 * text-limit
   pub table-room : 384 ≤ length table
   pub code-room : length tree ≤ length code
+
+-- And so have the tokens and the stacks.
+pub record Room (text tokens places values tree table code kinds lengths : List ℕ) : Type 0 where
+  pub lent : Lent text tree table code
+  pub tokens-room : L.Room text tokens places values
   pub kinds-room : stack-limit ≤ length kinds
   pub lengths-room : stack-limit ≤ length lengths
 

@@ -1,7 +1,5 @@
 // A text to its verdict: parsing, and then judging the tree.
-ghost use Prim.Native.Nat.{_≤_};
-ghost use lib.ListN.{length};
-ghost use Rattle.verdict.specs.Contract.{Room, Gives};
+ghost use Rattle.verdict.specs.Contract.{Room, Lent, Gives};
 use expressions::Reading;
 use judge::Judged;
 use judge::judge;
@@ -29,23 +27,41 @@ pub fn verdict(
     }
 }
 
-// The same, with buffers of its own for the tokens, the tree and the stacks of the longest text.
-pub fn judged(text: &[u8], table: &mut [u32], code: &mut [u32]) -> Judged
-    requires { ⌜ (384 ≤ length (now table)) × (12288 ≤ length (now code)) ⌝ }
+// The bytes of a short text, whose tokens take little room.
+const SHORT: usize = 512;
+
+// The same, with buffers of its own for the tokens and the stacks.
+pub fn judged(text: &[u8], tree: &mut [u32], table: &mut [u32], code: &mut [u32]) -> Judged
+    requires { ⌜ Lent (now text) (now tree) (now table) (now code) ⌝ }
     ensures { λ r. ⌜ Gives (now (text .entry)) (now (table .exit)) (now (code .exit)) r ⌝ }
 {
+    let mut kinds = [0u8; 232];
+    let mut lengths = [0u32; 232];
+    if text.len() <= SHORT {
+        let mut tokens = [0u8; 513];
+        let mut places = [0u32; 513];
+        let mut values = [0u32; 513];
+        return verdict(
+            text,
+            &mut tokens,
+            &mut places,
+            &mut values,
+            tree,
+            table,
+            code,
+            &mut kinds,
+            &mut lengths,
+        );
+    }
     let mut tokens = [0u8; 4097];
     let mut places = [0u32; 4097];
     let mut values = [0u32; 4097];
-    let mut tree = [0u32; 12288];
-    let mut kinds = [0u8; 232];
-    let mut lengths = [0u32; 232];
     verdict(
         text,
         &mut tokens,
         &mut places,
         &mut values,
-        &mut tree,
+        tree,
         table,
         code,
         &mut kinds,

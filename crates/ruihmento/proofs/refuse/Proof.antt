@@ -1,6 +1,5 @@
 -- `ruihmento::refuse` meets its contract. Assumes nothing.
-use mathlib.Core.Path.{_∙_}
-use Rattle.ruihmento.proofs.Slices.{low-place}
+use Rattle.ruihmento.proofs.Slices.{told-refusal}
 use borrow.Author.Needs.{needs}
 use Rattle.ruihmento.proofs.refuse.Statement.{statement}
 use Rattle.ruihmento.proofs.refuse.Tie as tie
@@ -18,7 +17,7 @@ same-length : tie.Need-same-length
 same-length c = search needs
 
 returns : tie.Need-returns
-returns c = c .before .before .tell .ensures ∙ low-place _ _ (c .before .before .before .code-of .ensures)
+returns c = told-refusal _ _ (c .before .before .tell .ensures) (c .before .before .before .code-of .ensures)
 
 pub refuse-spec : {M : Type 1} → statement M
 refuse-spec = tie.close (tie.spec code-of-requires cast-tell tell-requires same-length returns)

@@ -1,5 +1,5 @@
 -- `ruihmento::ruihmento_judge` meets its contract. Assumes nothing.
-use Rattle.ruihmento.proofs.Judging.{known, judge-not-called, judge-refused, judge-accepted}
+use Rattle.ruihmento.proofs.Judging.{buffers, judge-not-called, judge-called}
 use borrow.Author.Needs.{needs}
 use Rattle.ruihmento.proofs.ruihmento_judge.Statement.{statement}
 use Rattle.ruihmento.proofs.ruihmento_judge.Tie as tie
@@ -7,51 +7,47 @@ use Rattle.ruihmento.proofs.ruihmento_judge.Tie as tie
 returns : tie.Need-returns
 returns c = judge-not-called _ _ (c .if1 .taken)
 
-slice-aggregate-judged : tie.Need-slice-aggregate-judged
-slice-aggregate-judged c = search needs
+slice-aggregate-judge-in : tie.Need-slice-aggregate-judge-in
+slice-aggregate-judge-in c = search needs
 
-slice-aggregate-judged-2 : tie.Need-slice-aggregate-judged-2
-slice-aggregate-judged-2 c = search needs
+slice-aggregate-judge-in-2 : tie.Need-slice-aggregate-judge-in-2
+slice-aggregate-judge-in-2 c = search needs
 
-judged-requires : tie.Need-judged-requires
-judged-requires c κs = search needs
+judge-in-requires : tie.Need-judge-in-requires
+judge-in-requires c κs = buffers 1536 (search needs) (search needs) (search needs) (search needs) (c .before .before .before .before .if1 .left)
 
-enum-known-refusal : tie.Need-enum-known-refusal
-enum-known-refusal c = search needs
+slice-aggregate-judge-in-3 : tie.Need-slice-aggregate-judge-in-3
+slice-aggregate-judge-in-3 c = search needs
 
-refuse-requires : tie.Need-refuse-requires
-refuse-requires c κs = search needs
+slice-aggregate-judge-in-4 : tie.Need-slice-aggregate-judge-in-4
+slice-aggregate-judge-in-4 c = search needs
 
-enum-known-need : tie.Need-enum-known-need
-enum-known-need c = search needs
-
-tell-requires : tie.Need-tell-requires
-tell-requires c κs = search needs
+judge-in-requires-2 : tie.Need-judge-in-requires-2
+judge-in-requires-2 c κs = buffers 12288 (search needs) (search needs) (search needs) (search needs) (c .before .before .before .before .if1 .left)
 
 same-length : tie.Need-same-length
 same-length c = search needs
 
 returns-2 : tie.Need-returns-2
-returns-2 c = judge-refused (known (c .before .before .before .before .before .before .before .before .before .judged .ensures) (c .before .before .before .before .before .refusal .given .1)) _ (c .before .before .before .before .before .before .before .before .before .before .before .before .if1 .left) (c .before .before .refuse .ensures)
+returns-2 c = judge-called _ _ (c .before .before .before .before .before .before .before .before .before .if1 .left) (c .before .before .before .before .judge-in .ensures)
 
 same-length-2 : tie.Need-same-length-2
 same-length-2 c = search needs
 
 returns-3 : tie.Need-returns-3
-returns-3 c = judge-accepted (known (c .before .before .before .before .before .before .before .before .before .judged .ensures) (c .before .before .before .before .before .need .given .1)) _ (c .before .before .before .before .before .before .before .before .before .before .before .before .if1 .left) (c .before .before .tell .ensures)
+returns-3 c = judge-called _ _ (c .before .before .before .before .before .before .before .before .before .if1 .left) (c .before .before .before .before .judge-in2 .ensures)
 
 pub ruihmento-judge-spec : {M : Type 1} → statement M
 ruihmento-judge-spec =
     tie.close
     (tie.spec
     returns
-    slice-aggregate-judged
-    slice-aggregate-judged-2
-    judged-requires
-    enum-known-refusal
-    refuse-requires
-    enum-known-need
-    tell-requires
+    slice-aggregate-judge-in
+    slice-aggregate-judge-in-2
+    judge-in-requires
+    slice-aggregate-judge-in-3
+    slice-aggregate-judge-in-4
+    judge-in-requires-2
     same-length
     returns-2
     same-length-2
