@@ -1,22 +1,24 @@
--- What judge and run answer, by the code: the sentences under document 01's table of codes.
+-- What the definitions answer, by the code: the sentences under document 01's table of codes.
 use Prim.Native.Nat.{ℕ, _-_, _≤_}
 use mathlib.Core.Path.{_≡_, refl, sym, ap, _∙_}
 use mathlib.Core.Bool.{Bool, true, false}
-use mathlib.Core.List.{List, [], _∷_}
+use mathlib.Core.List.{List, [], _∷_, _++_}
 use native.Mathlib.Omega.{arith}
 use lib.Dec.{leb}
-use lib.ListN.{length}
-use borrow.Author.Tests.{leb-true}
+use lib.ListN.{length, drop, length-drop}
+use borrow.Author.Tests.{leb-true, leb-false}
 use Rattle.meaning.specs.declared.Refusal.{Refusal}
 use Rattle.meaning.specs.declared.Refusal.the-variants.{TextTooLong, BadBytes, NotAllowed, TooDeep, UnknownName, AlreadyOpen, LengthNotListed, WrongKind, WrongLength, LengthOneTarget, TooManyDeclarations, MemoryTooShort, BudgetSpent}
-use Rattle.meaning.specs.Codes.{code, Out, ok, refused, if_then_else_}
+use Rattle.meaning.specs.Codes.{code, Out, ok, refused, if_then_else_, declaration-limit}
 use Rattle.meaning.specs.Program.{Program}
-use Rattle.meaning.specs.Memory.{Memory, Declarations, need, fetch, update}
+use Rattle.meaning.specs.Memory.{Memory, Declarations, little-endian, need, fetch, update}
 use Rattle.meaning.specs.Running as R
 use Rattle.meaning.specs.Running.{Ran, spent, done}
-use Rattle.meaning.specs.Services.{Answer, answer, judged, verdict, judge, ended, executed, run}
-use Rattle.limits.proofs.Outcomes.{Ends, early}
+use Rattle.meaning.specs.Services.{Answer, answer, judged, verdict, judge, ended, executed, run, kind-number, sixteen, listed, table-of, variables}
+use Rattle.layout.specs.Sound.{Laid}
+use Rattle.limits.proofs.Outcomes.{said, early}
 use Rattle.limits.proofs.Accepted.{judged-ends}
+use Rattle.promises.specs.Answers.{need-limit, Judges, accepts, refuses, Runs, stops, too-short, runs-out, ends, Lists, lists, lists-none}
 
 -- The numbers of the refusals begin at 1.
 some-code : (c : Refusal) → 1 ≤ code c
@@ -34,46 +36,70 @@ some-code TooManyDeclarations = omega arith
 some-code MemoryTooShort = omega arith
 some-code BudgetSpent = omega arith
 
-judge-code : (text : List ℕ) (c : Refusal) (p : ℕ) → judged text ≡ refused c p → code c ≤ 11
-judge-code text c p e = early (judged-ends text) e
-
--- "Judge gives 0 to 11, always with steps 0"; "Codes 1 to 11: need and steps 0."
-pub data Judges : Answer → Type 0 where
-  accepts : (n : ℕ) → Judges (answer 0 0 n 0)
-  refuses : (c p : ℕ) → 1 ≤ c → c ≤ 11 → Judges (answer c p 0 0)
-
-pub judge-answers : (text : List ℕ) → Judges (judge text)
-unfolding judge verdict
-judge-answers text = go (judged text) refl
+-- The listing keeps the table's length.
+length-listed : (Γ : Declarations) (l : List ℕ) → length (listed Γ l) ≡ length l
+unfolding listed sixteen little-endian
+length-listed [] l = refl
+length-listed (d ∷ Γ) l = go (leb 16 (length l)) refl (length-listed Γ (drop 16 l))
   where
-    go : (o : Out Declarations Program) → judged text ≡ o → Judges (verdict (λ Γ. 0) o)
-    go (ok P Γ) e = accepts (need Γ)
-    go (refused c p) e = refuses (code c) p (some-code c) (judge-code text c p e)
+    go : (b : Bool) → leb 16 (length l) ≡ b → length (listed Γ (drop 16 l)) ≡ length (drop 16 l)
+        → length (if b then (λ _. sixteen (d .place) (kind-number (d .kind)) (d .lanes) (d .address) ++ listed Γ (drop 16 l)) else λ _. l) ≡ length l
+    go true t h = omega (arith, length-drop 16 l, leb-true 16 (length l) t)
+    go false t h = refl
 
--- "Codes 1 to 11: need and steps 0. Code 12: need given, steps 0. In all of these the memory keeps every byte. Code 13: need
--- given, steps equal to the budget .. Code 0: need given, steps as taken."
-pub data Runs (M : Memory) (budget : ℕ) : Answer × Memory → Type 0 where
-  stops : (c p : ℕ) → 1 ≤ c → c ≤ 11 → Runs M budget (answer c p 0 0, M)
-  too-short : (n : ℕ) → Runs M budget (answer 12 0 n 0, M)
-  runs-out : (p n : ℕ) (M′ : Memory) → n ≤ length M → Runs M budget (answer 13 p n budget, M′)
-  ends : (n s : ℕ) (M′ : Memory) → n ≤ length M → s ≤ budget → Runs M budget (answer 0 0 n s, M′)
+module _ (text : List ℕ) where
+  judge-code : (c : Refusal) (p : ℕ) → judged text ≡ refused c p → code c ≤ 11
+  judge-code c p e = early (judged-ends text) e
 
-pub run-answers : (text : List ℕ) (M : Memory) (budget : ℕ) → Runs M budget (run text M budget)
-unfolding run executed ended
-run-answers text M budget = go (judged text) refl
-  where
-    over : (n : ℕ) → n ≤ length M → (r : Ran Memory) → Runs M budget (ended n budget r)
-    over n h (spent p M′) = runs-out p n M′ h
-    over n h (done M′ left) = ends n (budget - left) M′ h (omega arith)
+  module _ {P : Program} {Γ : Declarations} (e : judged text ≡ ok P Γ) where
+    accepted-laid : Laid Γ
+    accepted-laid = said (judged-ends text) e .1
 
-    room : (P : Program) (Γ : Declarations) (b : Bool) → leb (need Γ) (length M) ≡ b
-        → Runs M budget (if b then (λ _. ended (need Γ) budget (R.run (fetch Γ) (update Γ) P (true ∷ []) budget M)) else λ _. (answer 12 0 (need Γ) 0, M))
-    room P Γ true e = over (need Γ) (leb-true (need Γ) (length M) e) (R.run (fetch Γ) (update Γ) P (true ∷ []) budget M)
-    room P Γ false e = too-short (need Γ)
+    need-bounded : need Γ ≤ need-limit
+    unfolding declaration-limit
+    need-bounded = omega (arith, accepted-laid .small, accepted-laid .few)
 
-    go : (o : Out Declarations Program) → judged text ≡ o → Runs M budget (executed M budget o)
-    go (ok P Γ) e = room P Γ (leb (need Γ) (length M)) refl
-    go (refused c p) e = stops (code c) p (some-code c) (judge-code text c p e)
+  pub judge-answers : Judges (judge text)
+  unfolding judge verdict
+  judge-answers = go (judged text) refl
+    where
+      go : (o : Out Declarations Program) → judged text ≡ o → Judges (verdict (λ Γ. 0) o)
+      go (ok P Γ) e = accepts (need Γ) (need-bounded e)
+      go (refused c p) e = refuses (code c) p (some-code c) (judge-code c p e)
+
+  pub run-answers : (M : Memory) (budget : ℕ) → Runs M budget (run text M budget)
+  unfolding run executed ended
+  run-answers M budget = go (judged text) refl
+    where
+      over : (n : ℕ) → n ≤ length M → n ≤ need-limit → (r : Ran Memory) → Runs M budget (ended n budget r)
+      over n h l (spent p M′) = runs-out p n M′ h l
+      over n h l (done M′ left) = ends n (budget - left) M′ h l (omega arith)
+
+      room : (P : Program) (Γ : Declarations) → need Γ ≤ need-limit → (b : Bool) → leb (need Γ) (length M) ≡ b
+          → Runs M budget (if b then (λ _. ended (need Γ) budget (R.run (fetch Γ) (update Γ) P (true ∷ []) budget M)) else λ _. (answer 12 0 (need Γ) 0, M))
+      room P Γ l true e = over (need Γ) (leb-true (need Γ) (length M) e) l (R.run (fetch Γ) (update Γ) P (true ∷ []) budget M)
+      room P Γ l false e = too-short (need Γ) (leb-false (need Γ) (length M) e) l
+
+      go : (o : Out Declarations Program) → judged text ≡ o → Runs M budget (executed M budget o)
+      go (ok P Γ) e = room P Γ (need-bounded e) (leb (need Γ) (length M)) refl
+      go (refused c p) e = stops (code c) p (some-code c) (judge-code c p e)
+
+  pub variables-answers : (table : List ℕ) → Lists table (variables text table)
+  unfolding variables verdict table-of
+  variables-answers table = go (judged text) refl
+    where
+      go : (o : Out Declarations Program) → judged text ≡ o → Lists table (verdict length o, table-of o table)
+      go (ok P Γ) e = lists (need Γ) (length Γ) (listed Γ table) (need-bounded e) (accepted-laid e .few) (length-listed Γ table)
+      go (refused c p) e = lists-none (code c) p (some-code c) (judge-code c p e)
+
+  -- Code, place and need are the judge's.
+  pub variables-judge : (table : List ℕ) → ((variables text table) .0 .code ≡ (judge text) .code) × ((variables text table) .0 .place ≡ (judge text) .place) × ((variables text table) .0 .need ≡ (judge text) .need)
+  unfolding variables judge verdict answer
+  variables-judge table = go (judged text)
+    where
+      go : (o : Out Declarations Program) → ((verdict length o) .code ≡ (verdict (λ Γ. 0) o) .code) × ((verdict length o) .place ≡ (verdict (λ Γ. 0) o) .place) × ((verdict length o) .need ≡ (verdict (λ Γ. 0) o) .need)
+      go (ok P Γ) = (refl, refl, refl)
+      go (refused c p) = (refl, refl, refl)
 
 -- Run judges the text itself: where judge refuses, run gives the same four numbers and leaves the memory.
 pub run-judges : (text : List ℕ) (M : Memory) (budget c p : ℕ) → judge text ≡ answer c p 0 0 → 1 ≤ c → run text M budget ≡ (answer c p 0 0, M)
@@ -83,3 +109,36 @@ run-judges text M budget c p e h = go (judged text) e
     go : (o : Out Declarations Program) → verdict (λ Γ. 0) o ≡ answer c p 0 0 → executed M budget o ≡ (answer c p 0 0, M)
     go (ok P Γ) f = let z : 0 ≡ c = ap (λ (a : Answer). a .code) f in absurd (omega arith)
     go (refused d q) f = ap (λ (a : Answer). (a, M)) f
+
+-- By the code: a refusal keeps the memory, a spent budget is spent whole, and no run takes more than its budget.
+module _ {M : Memory} {budget : ℕ} where
+  pub refusal-keeps : {o : Answer × Memory} → Runs M budget o → 1 ≤ o .0 .code → o .0 .code ≤ 12 → o .1 ≡ M
+  unfolding answer
+  refusal-keeps (stops c p h l) some few = refl
+  refusal-keeps (too-short n h l) some few = refl
+  refusal-keeps (runs-out p n M′ h l) some few = absurd (omega arith)
+  refusal-keeps (ends n s M′ h l t) some few = absurd (omega arith)
+
+  pub all-steps : {o : Answer × Memory} → Runs M budget o → o .0 .code ≡ 13 → o .0 .steps ≡ budget
+  unfolding answer
+  all-steps (stops c p h l) e = absurd (omega arith)
+  all-steps (too-short n h l) e = absurd (omega arith)
+  all-steps (runs-out p n M′ h l) e = refl
+  all-steps (ends n s M′ h l t) e = absurd (omega arith)
+
+  pub no-more-steps : {o : Answer × Memory} → Runs M budget o → o .0 .steps ≤ budget
+  unfolding answer
+  no-more-steps (stops c p h l) = omega arith
+  no-more-steps (too-short n h l) = omega arith
+  no-more-steps (runs-out p n M′ h l) = omega arith
+  no-more-steps (ends n s M′ h l t) = t
+
+pub listing-keeps : {table : List ℕ} {o : Answer × List ℕ} → Lists table o → 1 ≤ o .0 .code → o .1 ≡ table
+unfolding answer
+listing-keeps (lists n k table′ l t s) some = absurd (omega arith)
+listing-keeps (lists-none c p h l) some = refl
+
+pub few-listed : {table : List ℕ} {o : Answer × List ℕ} → Lists table o → o .0 .steps ≤ declaration-limit
+unfolding answer
+few-listed (lists n k table′ l t s) = t
+few-listed (lists-none c p h l) = omega arith
