@@ -2,3 +2,5 @@ pub mod Answers
 pub mod Calls
 pub mod Demands
 pub mod Starred
+pub mod Keeping
+pub mod Outside
