@@ -15,7 +15,8 @@ use Rattle.judge.specs.declared.Judged.{Judged}
 use Rattle.judge.specs.declared.Judged.the-variants.{Accepted, Refused}
 use Rattle.judge.specs.Answers.{judged-out, Accepts}
 use Rattle.verdict.specs.Contract.{Lent, Gives}
-use Rattle.ruihmento.specs.Promise.{Kept, with-answer, holding, Buffers}
+use Rattle.promises.specs.Promise.{Kept, with-answer, holding}
+use Rattle.ruihmento.specs.Promise.{Buffers}
 use Rattle.ruihmento.proofs.Slices.{not-called, kept}
 
 -- A slice without room.

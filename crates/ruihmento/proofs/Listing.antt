@@ -14,7 +14,8 @@ use Rattle.layout.specs.Table.{entry, entries}
 use Rattle.typing.proofs.Names.{length-entries}
 use Rattle.judge.specs.declared.Judged.the-variants.{Accepted, Refused}
 use Rattle.verdict.specs.Contract.{Gives}
-use Rattle.ruihmento.specs.Promise.{Kept, with-answer, Leaves}
+use Rattle.promises.specs.Promise.{Kept, with-answer}
+use Rattle.ruihmento.specs.Promise.{Leaves}
 use Rattle.ruihmento.proofs.Slices.{not-called, kept, leaves}
 use Rattle.ruihmento.proofs.Judging.{is-refused, is-accepted, accepts}
 

@@ -27,7 +27,8 @@ use Rattle.engine.specs.Runs.{Runs}
 use Rattle.engine.proofs.Budgets.{leaves-less}
 use Rattle.judge.specs.declared.Judged.the-variants.{Accepted, Refused}
 use Rattle.verdict.specs.Contract.{Lent, Gives}
-use Rattle.ruihmento.specs.Promise.{Kept, with-answer, Scratch, Prepared, Leaves}
+use Rattle.promises.specs.Promise.{Kept, with-answer}
+use Rattle.ruihmento.specs.Promise.{Scratch, Prepared, Leaves}
 use Rattle.ruihmento.proofs.Slices.{not-called, kept, leaves}
 use Rattle.ruihmento.proofs.Judging.{is-refused, is-accepted}
 use Rattle.ruihmento.proofs.Ready.{prepared}

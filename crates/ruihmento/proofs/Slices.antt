@@ -9,7 +9,8 @@ use borrow.Author.Tests.{le-leb, lt-leb}
 use Rattle.meaning.specs.Codes.{if_then_else_}
 use Rattle.meaning.specs.Memory.{little-endian}
 use Rattle.meaning.specs.Services.{Answer, answer, sixteen, Called, called}
-use Rattle.ruihmento.specs.Promise.{Kept, with-answer, Leaves}
+use Rattle.promises.specs.Promise.{Kept, with-answer}
+use Rattle.ruihmento.specs.Promise.{Leaves}
 
 length-sixteen : (c p n s : ℕ) → length (sixteen c p n s) ≡ 16
 unfolding sixteen little-endian

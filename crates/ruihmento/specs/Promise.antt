@@ -1,28 +1,15 @@
--- What a service promises whoever calls it.
+-- What the services work in, and what a run leaves for them.
 use Prim.Native.Nat.{ℕ, _*_, _≤_, min}
 use mathlib.Core.Path.{_≡_}
-use mathlib.Core.List.{List, _++_}
-use lib.ListN.{length, drop}
+use mathlib.Core.List.{List}
+use lib.ListN.{length}
 use Rattle.meaning.specs.Codes.{text-limit}
 use Rattle.meaning.specs.Program.{Program}
 use Rattle.meaning.specs.Memory.{Memory, Declarations, need}
-use Rattle.meaning.specs.Services.{Answer, Called, sixteen}
+use Rattle.meaning.specs.Services.{Answer}
 use Rattle.evaluate.specs.Stack.{waiting}
 use Rattle.engine.specs.Runs.{Runs}
-
--- What it returns, the answer slice and what was lent are the definition's.
-pub record Kept {A : Type 0} (by : Called A) (returned : ℕ) (slice : List ℕ) (lent : A) : Type 0 where
-  pub returns : returned ≡ by .returns
-  pub slice-is : slice ≡ by .slice
-  pub lent-is : lent ≡ by .lent
-
--- An answer slice with the four numbers in its first sixteen bytes.
-unfoldable pub with-answer : ℕ → ℕ → ℕ → ℕ → List ℕ → List ℕ
-with-answer c p n s slice = sixteen c p n s ++ drop 16 slice
-
--- The same, with the numbers of an answer.
-abbrev pub holding : Answer → List ℕ → List ℕ
-holding a slice = with-answer (a .code) (a .place) (a .need) (a .steps) slice
+use Rattle.promises.specs.Promise.{holding}
 
 -- What a text is judged in: its tree and its program have room, and so has the answer.
 pub record Buffers (text tree code slice : List ℕ) : Type 0 where
