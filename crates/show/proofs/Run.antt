@@ -13,7 +13,7 @@ use Rattle.print.proofs.Printing.{printed-length}
 use Rattle.print.proofs.Page.{held-words, shown-fits, page-start}
 use Rattle.answers.specs.Words.{Words}
 use Rattle.answers.proofs.Words.{run-words}
-use Rattle.ruihmento.specs.Promise.{Kept}
+use Rattle.promises.specs.Promise.{Kept}
 use Rattle.show.specs.Page.{Shows}
 
 -- Numbers that fit 32 bits are read back from an answer slice.
