@@ -1,22 +1,20 @@
 -- What the verdict of a text makes of the judge's answer, of the listing's and of the run's.
 use Prim.Native.Nat.{ℕ, _*_, _≤_, _<_, min}
-use mathlib.Core.Path.{_≡_, refl, sym, ap, _∙_}
+use mathlib.Core.Path.{_≡_, refl}
 use mathlib.Core.List.{List, []}
 use native.Mathlib.Omega.{arith}
 use lib.ListN.{length}
 use Rattle.meaning.specs.declared.Refusal.{Refusal}
-use Rattle.meaning.specs.Codes.{code, Out, ok, refused, text-limit}
-use Rattle.meaning.specs.Program.{Program}
-use Rattle.meaning.specs.Memory.{Declarations, need}
-use Rattle.meaning.specs.Services.{Answer, answer, judged, verdict, judge, judge-call, executed, run}
+use Rattle.meaning.specs.Codes.{code, ok, refused, text-limit}
+use Rattle.meaning.specs.Services.{answer, judged, verdict, judge, judge-call, executed, run}
 use Rattle.layout.specs.Table.{entries}
 use Rattle.answers.proofs.Places.{run-place-low}
 use Rattle.judge.specs.declared.Judged.{Judged}
 use Rattle.judge.specs.declared.Judged.the-variants.{Accepted, Refused}
 use Rattle.judge.specs.Answers.{judged-out, Accepts}
-use Rattle.verdict.specs.Contract.{Lent, Gives}
+use Rattle.verdict.specs.Contract.{Gives}
 use Rattle.promises.specs.Promise.{Kept, with-answer, holding}
-use Rattle.ruihmento.specs.Promise.{Buffers}
+use Rattle.ruihmento.specs.Room.{Buffers}
 use Rattle.ruihmento.proofs.Slices.{not-called, kept}
 
 -- A slice without room.
@@ -32,10 +30,6 @@ judge-called text slice h w = kept slice tt _ h (record { written-is = w; after-
 -- An answer that is known.
 pub known : {text table words : List ℕ} {r q : Judged} → Gives text table words r → r ≡ q → Gives text table words q
 known g e = rw e at g
-
--- What a text is judged in.
-pub lent : {text tree table code slice : List ℕ} → Buffers text tree code slice → length table ≡ 384 → Lent text tree table code
-lent b e = record { tree-room = b .tree-room; few = b .few; table-room = omega arith; code-room = b .code-room }
 
 -- Buffers of n words each, for texts of which that is enough.
 pub buffers : {text tree code slice : List ℕ} (n : ℕ) → 3 * min (length text) 4096 ≤ n → n ≤ 12288 → length tree ≡ n → length code ≡ n → 16 ≤ length slice → Buffers text tree code slice

@@ -1,21 +1,19 @@
 -- What the verdict of a text makes of the listing of its variables.
 use Prim.Native.Nat.{ℕ, zero, suc, _*_, _≤_, _<_}
-use mathlib.Core.Path.{_≡_, refl, sym, ap, ap₂, _∙_}
-use mathlib.Core.Bool.{Bool, true, false}
-use mathlib.Core.List.{List, [], _∷_, _++_, map, map-append}
+use mathlib.Core.Path.{_≡_, refl, sym, ap, _∙_}
+use mathlib.Core.List.{List, [], _∷_, map, map-append}
 use native.Mathlib.Omega.{arith}
-use lib.Dec.{leb}
 use lib.ListN.{length, drop}
 use Rattle.meaning.specs.declared.Refusal.{Refusal}
-use Rattle.meaning.specs.Codes.{code, if_then_else_}
-use Rattle.meaning.specs.Memory.{Declared, Declarations, need}
-use Rattle.meaning.specs.Services.{Answer, answer, judged, verdict, sixteen, kind-number, listed, table-of, variables, variables-call}
+use Rattle.meaning.specs.Codes.{code}
+use Rattle.meaning.specs.Memory.{Declared, Declarations}
+use Rattle.meaning.specs.Services.{verdict, listed, table-of, variables, variables-call}
 use Rattle.layout.specs.Table.{entry, entries}
 use Rattle.typing.proofs.Names.{length-entries}
 use Rattle.judge.specs.declared.Judged.the-variants.{Accepted, Refused}
 use Rattle.verdict.specs.Contract.{Gives}
 use Rattle.promises.specs.Promise.{Kept, with-answer}
-use Rattle.ruihmento.specs.Promise.{Leaves}
+use Rattle.ruihmento.specs.Room.{Leaves}
 use Rattle.ruihmento.proofs.Slices.{not-called, kept, leaves}
 use Rattle.ruihmento.proofs.Judging.{is-refused, is-accepted, accepts}
 

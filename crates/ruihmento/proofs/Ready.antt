@@ -1,20 +1,20 @@
 -- A text that is accepted is ready to run: its words, its table and its program are what a run asks for.
-use Prim.Native.Nat.{ℕ, zero, suc, _*_, _≤_, _<_}
-use mathlib.Core.Path.{_≡_, refl, sym, ap, ap₂, _∙_, subst}
+use Prim.Native.Nat.{ℕ, _≤_, _<_}
+use mathlib.Core.Path.{_≡_, refl, sym, _∙_, subst}
 use mathlib.Core.Bool.{Bool, true, false}
-use mathlib.Core.Logic.{_⊎_, inl, inr}
+use mathlib.Core.Logic.{inl, inr}
 use mathlib.Core.List.{List}
 use native.Mathlib.Omega.{arith}
 use lib.Dec.{eqb}
 use lib.ListN.{length, take}
 use lib.Seq.{length-take-le}
-use borrow.Author.Tests.{eq-eqb, ne-eqb, eqb-true, eqb-false}
-use Rattle.meaning.specs.Codes.{Out, ok, if_then_else_, nesting-limit}
+use borrow.Author.Tests.{eqb-true}
+use Rattle.meaning.specs.Codes.{Out, ok, nesting-limit}
 use Rattle.meaning.specs.Program.{Code, Program}
-use Rattle.meaning.specs.Memory.{Declarations, declared, need}
+use Rattle.meaning.specs.Memory.{Declarations, declared}
 use Rattle.meaning.specs.Typing.{joined}
 use Rattle.meaning.specs.Services.{judged}
-use Rattle.layout.specs.Table.{word-of, kind-of, entry, entries, Lies}
+use Rattle.layout.specs.Table.{entry, entries, Lies}
 use Rattle.layout.specs.Sound.{Runnable, Laid}
 use Rattle.typing.specs.Rows.{Rows}
 use Rattle.typing.proofs.Names.{length-entries, entries-at}
@@ -28,7 +28,7 @@ use Rattle.blocks.specs.Widths.{wide}
 use Rattle.engine.specs.Lengths.{width, Spreadable, Fits, fits-nothing, fits-step, fits-put, fits-both, fits-choice, fits-cycle, fits-alone}
 use Rattle.judge.specs.declared.Judged.the-variants.{Accepted}
 use Rattle.verdict.specs.Contract.{Gives}
-use Rattle.ruihmento.specs.Promise.{Prepared}
+use Rattle.ruihmento.specs.Room.{Prepared}
 use Rattle.ruihmento.proofs.Judging.{is-accepted, accepts}
 
 -- Where lengths match, that of two values together is the same for typing and for a run.

@@ -1,21 +1,19 @@
 -- What a verdict, and how a run ended, make of the run's answer.
 use Prim.Native.Nat.{ℕ, _+_, _*_, _/_, _-_, _≤_, _<_, min}
-use mathlib.Core.Path.{_≡_, refl, sym, ap, _∙_}
-use mathlib.Core.Bool.{true, false}
+use mathlib.Core.Path.{_≡_, refl, sym, _∙_}
+use mathlib.Core.Bool.{true}
 use mathlib.Core.List.{List, [], _∷_}
 use native.Mathlib.Omega.{arith}
-use lib.Dec.{leb}
 use lib.ListN.{length, take}
 use lib.Seq.{length-take-le}
 use borrow.Author.Tests.{le-leb, lt-leb}
 use Rattle.meaning.specs.declared.Refusal.{Refusal}
 use Rattle.meaning.specs.declared.Refusal.the-variants.{MemoryTooShort, BudgetSpent}
-use Rattle.meaning.specs.Codes.{code, Out, ok, refused, if_then_else_, text-limit, nesting-limit}
+use Rattle.meaning.specs.Codes.{code, ok, text-limit, nesting-limit}
 use Rattle.meaning.specs.Program.{Program}
 use Rattle.meaning.specs.Memory.{Memory, Declarations, need, fetch, update}
 use Rattle.meaning.specs.Running as R
-use Rattle.meaning.specs.Running.{Ran, spent, done}
-use Rattle.meaning.specs.Services.{Answer, answer, ended, executed, run, run-call}
+use Rattle.meaning.specs.Services.{answer, ended, executed, run, run-call}
 use Rattle.layout.specs.Table.{entries}
 use Rattle.layout.specs.Sound.{stack-limit}
 use Rattle.evaluate.specs.Stack.{waiting}
@@ -28,10 +26,9 @@ use Rattle.engine.proofs.Budgets.{leaves-less}
 use Rattle.judge.specs.declared.Judged.the-variants.{Accepted, Refused}
 use Rattle.verdict.specs.Contract.{Lent, Gives}
 use Rattle.promises.specs.Promise.{Kept, with-answer}
-use Rattle.ruihmento.specs.Promise.{Scratch, Prepared, Leaves}
+use Rattle.ruihmento.specs.Room.{Scratch, Prepared, Leaves}
 use Rattle.ruihmento.proofs.Slices.{not-called, kept, leaves}
 use Rattle.ruihmento.proofs.Judging.{is-refused, is-accepted}
-use Rattle.ruihmento.proofs.Ready.{prepared}
 
 -- Buffers of so many words for the program and for the scratch, for texts of which that is enough.
 pub scratched : {text scratch code slice : List ℕ} (n k : ℕ) → 3 * min (length text) 4096 ≤ n → n ≤ 12288 → n ≤ k → min 232 ((n + 3) / 6) * 64 ≤ k → length scratch ≡ k → length code ≡ n → 16 ≤ length slice → Scratch text scratch code slice

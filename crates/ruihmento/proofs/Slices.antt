@@ -1,16 +1,15 @@
 -- What stands in an answer slice, and what a call leaves.
-use Prim.Native.Nat.{ℕ, _+_, _≤_, _<_}
-use mathlib.Core.Path.{_≡_, refl, sym, ap, _∙_}
-use mathlib.Core.List.{List, [], _∷_, _++_}
+use Prim.Native.Nat.{ℕ, _≤_, _<_}
+use mathlib.Core.Path.{_≡_, refl, _∙_}
+use mathlib.Core.List.{List}
 use native.Mathlib.Omega.{arith}
-use lib.ListN.{length, drop}
+use lib.ListN.{length}
 use lib.Seq.{sets, sets-eq}
 use borrow.Author.Tests.{le-leb, lt-leb}
-use Rattle.meaning.specs.Codes.{if_then_else_}
 use Rattle.meaning.specs.Memory.{little-endian}
-use Rattle.meaning.specs.Services.{Answer, answer, sixteen, Called, called}
+use Rattle.meaning.specs.Services.{Answer, answer, sixteen, called}
 use Rattle.promises.specs.Promise.{Kept, with-answer}
-use Rattle.ruihmento.specs.Promise.{Leaves}
+use Rattle.ruihmento.specs.Room.{Leaves}
 
 length-sixteen : (c p n s : ℕ) → length (sixteen c p n s) ≡ 16
 unfolding sixteen little-endian

@@ -9,7 +9,7 @@ ghost use Rattle.meaning.specs.Memory.{Declarations};
 ghost use Rattle.meaning.specs.Services.{judge, judge-call, variables, variables-call, run, run-call, executed};
 ghost use Rattle.evaluate.specs.Stack.{waiting};
 ghost use Rattle.promises.specs.Promise.{Kept, with-answer, holding};
-ghost use Rattle.ruihmento.specs.Promise.{Buffers, Scratch, Prepared, Leaves};
+ghost use Rattle.ruihmento.specs.Room.{Buffers, Scratch, Prepared, Leaves};
 use engine::Ended;
 use engine::execute;
 use judge::Judged;

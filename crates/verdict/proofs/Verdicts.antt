@@ -1,5 +1,5 @@
 -- What parsing and judging say is what the verdict says.
-use Prim.Native.Nat.{ℕ, suc, _*_, _≤_, min}
+use Prim.Native.Nat.{ℕ, suc, _≤_, min}
 use mathlib.Core.Path.{_≡_, refl, sym, ap, _∙_}
 use mathlib.Core.List.{List}
 use native.Mathlib.Omega.{arith}
@@ -7,11 +7,10 @@ use lib.ListN.{length, take}
 use lib.Seq.{length-take-le}
 use Rattle.meaning.specs.declared.Refusal.{Refusal}
 use Rattle.meaning.specs.Codes.{Out, ok, refused, text-limit, nesting-limit}
-use Rattle.meaning.specs.Tokens.{Token, lexed}
+use Rattle.meaning.specs.Tokens.{lexed}
 use Rattle.meaning.specs.Tree.{Stmts}
 use Rattle.meaning.specs.Reading.{read}
-use Rattle.meaning.specs.Program.{Program, nothing}
-use Rattle.meaning.specs.Memory.{Declarations}
+use Rattle.meaning.specs.Program.{nothing}
 use Rattle.meaning.specs.Typing.{typed-program}
 use Rattle.meaning.specs.Services.{pass, judged}
 use Rattle.layout.specs.Sound.{stack-limit}

@@ -1,5 +1,5 @@
 -- `ruihmento::list_in` meets its contract. Assumes nothing.
-use Rattle.ruihmento.proofs.Judging.{known, lent, near}
+use Rattle.ruihmento.proofs.Judging.{known, near}
 use Rattle.ruihmento.proofs.Listing.{few-rows, rows-room, variables-refused, variables-accepted}
 use borrow.Author.Needs.{needs}
 use Rattle.ruihmento.proofs.list_in.Statement.{statement}

@@ -5,7 +5,7 @@ use mathlib.Core.List.{List}
 use lib.ListN.{length}
 use Rattle.meaning.specs.Codes.{text-limit}
 use Rattle.meaning.specs.Program.{Program}
-use Rattle.meaning.specs.Memory.{Memory, Declarations, need}
+use Rattle.meaning.specs.Memory.{Declarations, need}
 use Rattle.meaning.specs.Services.{Answer}
 use Rattle.evaluate.specs.Stack.{waiting}
 use Rattle.engine.specs.Runs.{Runs}
