@@ -1,9 +1,9 @@
 -- Elements and lengths of lists that are made from lists, element by element.
-use Prim.Native.Nat.{ℕ, zero, suc, _+_, _<_, _≤_, min}
+use Prim.Native.Nat.{ℕ, zero, suc, _<_, _≤_, min}
 use mathlib.Core.Path.{_≡_, refl, ap}
 use mathlib.Core.List.{List, [], _∷_, map, zipWith}
 use native.Mathlib.Omega.{arith}
-use lib.ListN.{length, getD, take, drop}
+use lib.ListN.{length, getD, take}
 
 pub length-zip : {A B D : Type 0} (f : A → B → D) (u : List A) (v : List B) → length (zipWith f u v) ≡ min (length u) (length v)
 unfolding zipWith

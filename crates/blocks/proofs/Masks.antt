@@ -11,7 +11,7 @@ use lib.Bits.{bitAnd, and-step}
 use lib.ListN.{length, getD, take, drop, replicate, length-drop, length-map}
 use lib.Seq.{drop-cons, drop-length}
 use borrow.Author.Tests.{eq-eqb, ne-eqb}
-use Rattle.meaning.specs.Memory.{Mask, bit, truth, spread}
+use Rattle.meaning.specs.Memory.{Mask, bit, truth}
 use Rattle.meaning.specs.Running.{some-lane}
 use Rattle.blocks.specs.Masks.{bits, number}
 use Rattle.blocks.specs.Widths.{across}

@@ -3,7 +3,7 @@
 -- An expression is a unit for each node, operands before their operator: the order in which it is typed and evaluated.
 -- A statement is its head, then its parts one after another. The head begins with its tag, the place of its first token and how
 -- many words follow these three, so that the next statement is found without a look at the parts.
-use Prim.Native.Nat.{ℕ, zero, suc, _+_}
+use Prim.Native.Nat.{ℕ, _+_}
 use mathlib.Core.Bool.{Bool, true, false}
 use mathlib.Core.List.{List, [], _∷_, _++_}
 use mathlib.Core.Option.{Option, none, some}

@@ -4,7 +4,6 @@ use mathlib.Core.Path.{_≡_, refl}
 use mathlib.Core.List.{List}
 use native.Mathlib.Omega.{arith}
 use lib.ListN.{length}
-use Rattle.meaning.specs.declared.Refusal.{Refusal}
 use Rattle.meaning.specs.Codes.{Out, ok, refused, nesting-limit}
 use Rattle.meaning.specs.Tokens.{Token, lexed}
 use Rattle.meaning.specs.Tree.{Stmts}

@@ -5,7 +5,7 @@ use mathlib.Core.Bool.{Bool, true, false}
 use mathlib.Core.Option.{Option, none, some}
 use native.Mathlib.Omega.{arith}
 use Rattle.meaning.specs.declared.Refusal.{Refusal}
-use Rattle.meaning.specs.Codes.{code, Out, ok, refused, Doing, after, _>>=_, give, option, repeat, check}
+use Rattle.meaning.specs.Codes.{code, Out, ok, refused, Doing, after, give, option, repeat, check}
 
 -- P holds of the value and the state after it; a refusal is one of judge's, 1 to 11.
 pub data Ends {S A : Type 0} (P : A → S → Type 0) : Out S A → Type 0 where

@@ -3,7 +3,7 @@ use mathlib.Core.Path.{_≡_, sym}
 use mathlib.Core.List.{List}
 use Prim.Native.Nat.{ℕ}
 use native.Mathlib.Omega.{arith}
-use Rattle.meaning.specs.Codes.{Out, ok}
+use Rattle.meaning.specs.Codes.{ok}
 use Rattle.meaning.specs.Tokens.{Token, lexed}
 use Rattle.lex.proofs.Spelled.{lexed-accepted, spelled-later, spelled-name}
 use Rattle.limits.specs.Tokens.{Keeps}

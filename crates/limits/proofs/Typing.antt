@@ -1,7 +1,7 @@
 -- A program that is typed is runnable over its declarations, and they keep to their limits.
-use Prim.Native.Nat.{ℕ, zero, suc, _+_, _*_, _≤_, _<_, max}
-use mathlib.Core.Path.{_≡_, refl, sym, ap, _∙_}
-use mathlib.Core.Bool.{Bool, true, false, _&&_, _||_, false≢true}
+use Prim.Native.Nat.{ℕ, suc, _+_, _≤_, _<_}
+use mathlib.Core.Path.{_≡_, refl, sym}
+use mathlib.Core.Bool.{Bool, true, false, _&&_, _||_}
 use mathlib.Core.Bool as B
 use mathlib.Core.List.{List, [], _∷_, _++_, map}
 use mathlib.Core.Option.{Option, none, some}
@@ -12,15 +12,15 @@ use borrow.Author.Tests.{ltb-true}
 use Rattle.meaning.specs.declared.Kind.{Kind}
 use Rattle.meaning.specs.declared.Kind.the-variants.{Bool as bool}
 use Rattle.meaning.specs.declared.Refusal.the-variants.{UnknownName, WrongLength, WrongKind, AlreadyOpen, TooManyDeclarations, LengthNotListed, LengthOneTarget}
-use Rattle.meaning.specs.Codes.{Out, ok, refused, Doing, after, give, refuse, check, option, if_then_else_, _among_, lengths, declaration-limit}
+use Rattle.meaning.specs.Codes.{after, give, refuse, check, option, if_then_else_, _among_, lengths, declaration-limit}
 use Rattle.meaning.specs.Tokens.{equal}
-use Rattle.meaning.specs.Tree.{Name, Unary, Binary, table, unary-table, Expr, number, boolean, name, current-mask, unary, binary, Block, Stmt, empty, braces, declare, assign, if-else, while, scalar, Stmts, none-yet, _⨾_}
-use Rattle.meaning.specs.Program.{Code, constant, variable, the-mask, one, two, Program, nothing, step, put, both, choice, cycle, alone}
+use Rattle.meaning.specs.Tree.{Name, table, unary-table, Expr, number, boolean, name, current-mask, unary, binary, Block, Stmt, empty, braces, declare, assign, if-else, while, scalar, Stmts, none-yet, _⨾_}
+use Rattle.meaning.specs.Program.{Code, variable, one, Program}
 use Rattle.meaning.specs.Memory.{Declared, Declarations, declared}
 use Rattle.meaning.specs.Typing.{Types, Typed, same-kind, accepts, match, joined, fits, find, variable-named, typed, typed-condition, storable, with-one, declare-name, good-block, lanes-or, typed-declaration, shut, scope, typed-statement, typed-statements, typed-program}
-use Rattle.layout.specs.Sound.{stack, stack-limit, Names, of-number, of-boolean, of-name, of-mask, of-unary, of-binary, Sound, Placed, no-block, at-place, Valued, no-value, a-value, Walkable, of-empty, of-braces, of-declare, of-assign, of-if, of-while, of-scalar, All-walkable, of-none, of-more, code-stack, Numbers, of-constant, of-variable, of-the-mask, of-one, of-two, Able, Runnable, of-nothing, of-step, of-put, of-both, of-choice, of-cycle, of-alone, Laid}
+use Rattle.layout.specs.Sound.{stack, Sound, Valued, no-value, a-value, Walkable, of-empty, of-braces, of-declare, of-assign, of-if, of-while, of-scalar, All-walkable, of-none, of-more, code-stack, Numbers, of-constant, of-variable, of-the-mask, of-one, of-two, Able, Runnable, of-nothing, of-step, of-put, of-both, of-choice, of-cycle, of-alone, Laid}
 use Rattle.limits.proofs.Outcomes.{Ends, well, not, followed, weaker, passed}
-use Rattle.limits.proofs.Laying.{Kept, kept-none, laid, kept-one, length-more, Alike, closed-alike, alike-length, kept-alike}
+use Rattle.limits.proofs.Laying.{Kept, kept-none, laid, kept-one, length-more, closed-alike, alike-length, kept-alike}
 
 -- A length of the list: of a name, of a context, of an expression.
 abbrev Listed : ℕ → Type 0

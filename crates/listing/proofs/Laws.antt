@@ -1,16 +1,13 @@
 -- Records one after another: what stands in a table after the first of them. Assumes nothing.
 use Prim.Native.Nat.{ℕ, zero, suc, _+_, _*_, _≤_, _<_}
-use mathlib.Core.Path.{_≡_, refl, sym, ap, _∙_}
-use mathlib.Core.Bool.{Bool, true, false}
+use mathlib.Core.Path.{_≡_, refl, sym, _∙_}
 use mathlib.Core.List.{List, [], _∷_, _++_, append-assoc, append-nil}
 use native.Mathlib.Omega.{arith}
 use native.Mathlib.Nat.{eq-or-lt-of-le}
 use mathlib.Core.Logic.{⊎-elim}
-use lib.Dec.{leb}
-use lib.ListN.{length, take, drop, length-append, length-drop}
-use lib.Seq.{sets, sets-eq, drop-drop, drop-at, take-at, drop-append-add}
+use lib.ListN.{length, drop, length-append, length-drop}
+use lib.Seq.{sets, sets-eq, drop-drop, drop-at, take-at}
 use borrow.Author.Tests.{le-leb, lt-leb}
-use Rattle.meaning.specs.Codes.{if_then_else_}
 use Rattle.meaning.specs.Memory.{Declared, Declarations, little-endian}
 use Rattle.meaning.specs.Services.{kind-number, sixteen, listed}
 use Rattle.layout.specs.Table.{word-of, kind-of, entry, entries}

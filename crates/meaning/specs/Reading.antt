@@ -1,7 +1,7 @@
 -- Document 01, "The text": tokens to the tree; refusals 3 and 4.
 use Prim.Native.Nat.{ℕ, zero, suc}
 use Prim.Native.String.{String}
-use mathlib.Core.Bool.{Bool, true, false}
+use mathlib.Core.Bool.{true, false}
 use mathlib.Core.List.{List, [], _∷_, _++_, map}
 use mathlib.Core.Option.{Option, none, some}
 use lib.Dec.{eqb}
@@ -9,9 +9,9 @@ use lib.ListN.{length, getD}
 use Rattle.meaning.specs.declared.Kind.{Kind}
 use Rattle.meaning.specs.declared.Kind.the-variants.{Int as int, Bool as bool}
 use Rattle.meaning.specs.declared.Refusal.the-variants.{NotAllowed, TooDeep}
-use Rattle.meaning.specs.Codes.{Out, ok, refused, Doing, _>>=_, _>>_, give, refuse, check, repeat, option, lookup, if_then_else_, _among_, nesting-limit}
+use Rattle.meaning.specs.Codes.{Out, ok, Doing, _>>=_, _>>_, give, refuse, check, repeat, option, lookup, if_then_else_, _among_, nesting-limit}
 use Rattle.meaning.specs.Tokens.{Token, end-at, the, words, marks, numbered, reserved, signs}
-use Rattle.meaning.specs.Tree.{Unary, neg, inv, not, Binary, table, unary-table, levels, Expr, number, boolean, name, current-mask, unary, binary, Block, Stmt, empty, braces, declare, assign, if-else, while, scalar, Stmts, none-yet, _⨾_}
+use Rattle.meaning.specs.Tree.{neg, inv, not, Binary, table, unary-table, levels, Expr, number, boolean, name, current-mask, unary, binary, Block, Stmt, empty, braces, declare, assign, if-else, while, scalar, Stmts, none-yet, _⨾_}
 
 -- Reading goes on from a position in the list of tokens.
 abbrev pub Reads : Type 0 → Type 0

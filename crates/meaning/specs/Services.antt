@@ -1,6 +1,6 @@
 -- Document 01, "What is built": judge, run and the listing of variables, from bytes to numbers and bytes.
-use Prim.Native.Nat.{ℕ, zero, suc, _-_}
-use mathlib.Core.Bool.{Bool, true, false}
+use Prim.Native.Nat.{ℕ, _-_}
+use mathlib.Core.Bool.{true}
 use mathlib.Core.List.{List, [], _∷_, _++_}
 use lib.Dec.{leb}
 use lib.ListN.{length, drop}
@@ -12,7 +12,7 @@ use Rattle.meaning.specs.Tokens.{lexed}
 use Rattle.meaning.specs.Reading.{read}
 use Rattle.meaning.specs.Program.{Program}
 use Rattle.meaning.specs.Typing.{typed-program}
-use Rattle.meaning.specs.Memory.{Memory, Declared, Declarations, little-endian, need, fetch, update}
+use Rattle.meaning.specs.Memory.{Memory, Declarations, little-endian, need, fetch, update}
 use Rattle.meaning.specs.Running as R
 use Rattle.meaning.specs.Running.{Ran, spent, done}
 

@@ -1,8 +1,8 @@
 -- Document 01, "Typing": the tree to a program, with the declarations; refusals 5 to 11 in the stated order. The rules are those
 -- of 001, Figure 8, narrowed as document 01 says.
-use Prim.Native.Nat.{ℕ, zero, suc}
+use Prim.Native.Nat.{ℕ, suc}
 use mathlib.Core.Bool.{Bool, true, false, _&&_, _||_, not}
-use mathlib.Core.List.{List, [], _∷_, _++_, map}
+use mathlib.Core.List.{[], _∷_, _++_, map}
 use mathlib.Core.Option.{Option, none, some}
 use lib.Dec.{eqb, ltb}
 use lib.ListN.{length, take, drop}
@@ -11,7 +11,7 @@ use Rattle.meaning.specs.declared.Kind.the-variants.{Int as int, Bool as
 use Rattle.meaning.specs.declared.Refusal.the-variants.{UnknownName, AlreadyOpen, LengthNotListed, WrongKind, WrongLength, LengthOneTarget, TooManyDeclarations}
 use Rattle.meaning.specs.Codes.{Out, ok, refused, Doing, after, _>>=_, _>>_, give, refuse, check, option, if_then_else_, _among_, lengths, declaration-limit}
 use Rattle.meaning.specs.Tokens.{equal, starts}
-use Rattle.meaning.specs.Tree.{Name, Unary, Binary, Takes, ints, alike, Gives, a-bool, its-kind, table, unary-table, Expr, number, boolean, name, current-mask, unary, binary, Block, Stmt, empty, braces, declare, assign, if-else, while, scalar, Stmts, none-yet, _⨾_}
+use Rattle.meaning.specs.Tree.{Name, Takes, ints, alike, Gives, a-bool, its-kind, table, unary-table, Expr, number, boolean, name, current-mask, unary, binary, Block, Stmt, empty, braces, declare, assign, if-else, while, scalar, Stmts, none-yet, _⨾_}
 use Rattle.meaning.specs.Program.{Code, constant, variable, the-mask, one, two, Program, nothing, step, put, both, choice, cycle, alone}
 use Rattle.meaning.specs.Memory.{Declared, Declarations, declared, whole, next-multiple, need, bit, size}
 

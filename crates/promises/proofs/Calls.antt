@@ -7,7 +7,6 @@ use native.Mathlib.Omega.{arith}
 use lib.Dec.{leb}
 use lib.ListN.{length}
 use borrow.Author.Tests.{le-leb, lt-leb, leb-true, leb-false}
-use Rattle.meaning.specs.Codes.{if_then_else_}
 use Rattle.meaning.specs.Memory.{little-endian, number-of}
 use Rattle.meaning.specs.Services.{Answer, answer, sixteen, Called, called}
 use Rattle.answers.specs.Words.{Words}

@@ -21,7 +21,7 @@ use Rattle.lane.proofs.Bytes.{end-of, length-fetch, length-update, update-befor
 use Rattle.lane.proofs.Declared.{Laid}
 use Rattle.lane.proofs.Service.{judged-narrow}
 use Rattle.promises.specs.Promise.{Kept}
-use Rattle.promises.specs.Outside.{Outside, Same-outside}
+use Rattle.promises.specs.Outside.{Same-outside}
 use Rattle.promises.proofs.Calls.{left-as}
 use Rattle.promises.proofs.Demands.{run-delivers}
 use Rattle.promises.proofs.Keeping.{Steady, Leaves, run-keeps}

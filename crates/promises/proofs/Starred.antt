@@ -1,11 +1,10 @@
 -- Document 01's starred cases, and the errors that come easily, as theorems about the services themselves.
-use mathlib.Core.Path.{_≡_, refl, ap}
+use mathlib.Core.Path.{_≡_, ap}
 use mathlib.Core.List.{List, [], _∷_, map}
 use Rattle.meaning.specs.Tokens.{bytes}
 use Rattle.meaning.specs.Services.{judge, run}
 use Rattle.meaning.specs.Table.{Row, judged-as, found, expected, starred, checked-by-hand}
 use Rattle.meaning.specs.Errors.{errors, none-is-made}
-use Rattle.promises.specs.Promise.{Kept, Delivers}
 use Rattle.promises.specs.Starred.{Every, none, more, Serves}
 use Rattle.promises.proofs.Demands.{judge-delivers, run-delivers}
 

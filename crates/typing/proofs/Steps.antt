@@ -1,24 +1,22 @@
 -- Each way through the typing of a name, an operand, an operator and a declaration gives what the definition says.
-use Prim.Native.Nat.{ℕ, zero, suc, _+_, _-_, _*_, _≤_, _<_}
+use Prim.Native.Nat.{ℕ, zero, suc, _+_, _-_, _≤_, _<_}
 use native.Mathlib.Omega.{arith}
 use native.Mathlib.Nat.{add-sub-cancel-left}
-use mathlib.Core.Path.{_≡_, refl, sym, ap, _∙_}
+use mathlib.Core.Path.{_≡_, refl, sym, _∙_}
 use mathlib.Core.Bool.{Bool, true, false, _&&_}
 use mathlib.Core.List.{List, [], _∷_}
-use mathlib.Core.Option.{Option, none, some}
-use lib.Dec.{eqb, ltb}
+use mathlib.Core.Option.{some}
 use lib.ListN.{length, getD}
 use borrow.Author.Tests.{lt-ltb, le-ltb}
 use Rattle.meaning.specs.declared.Kind.{Kind}
 use Rattle.meaning.specs.declared.Kind.the-variants.{Int as int, Bool as bool}
-use Rattle.meaning.specs.declared.Refusal.{Refusal}
 use Rattle.meaning.specs.declared.Refusal.the-variants.{UnknownName, AlreadyOpen, WrongLength, TooManyDeclarations}
-use Rattle.meaning.specs.Codes.{Out, ok, refused, declaration-limit}
+use Rattle.meaning.specs.Codes.{declaration-limit}
 use Rattle.meaning.specs.Tokens.{equal, the, numbered, reserved, words, signs, marks}
 use Rattle.meaning.specs.Tree.{Name, Unary, Binary}
 use Rattle.meaning.specs.Memory.{Declared, Declarations, declared, whole, next-multiple, bit}
 use Rattle.meaning.specs.Services.{kind-number}
-use Rattle.meaning.specs.Typing.{find, fits, variable-named, declare-name, with-one}
+use Rattle.meaning.specs.Typing.{find, fits, variable-named, declare-name}
 use Rattle.layout.specs.Words.{boolean-tag, unary-tag, binary-tag}
 use Rattle.layout.specs.Table.{word-of, kind-of, entry, entries}
 use Rattle.layout.specs.Sound.{Spelled}

@@ -1,20 +1,20 @@
 -- Typing an expression node by node over a stack is typing it as the definition does.
-use Prim.Native.Nat.{ℕ, zero, suc, _+_, _-_, _≤_, _<_, max}
+use Prim.Native.Nat.{ℕ, zero, suc, _+_, _-_, _≤_, _<_}
 use native.Mathlib.Omega.{arith}
 use native.Mathlib.Nat.{add-zero, le-max-left, le-max-right}
 use native.Mathlib.Numerals.{add-one}
 use mathlib.Core.Path.{_≡_, refl, sym, ap, _∙_}
 use mathlib.Core.Bool.{Bool, true, false}
 use mathlib.Core.List.{List, [], _∷_, _++_, append-nil, append-assoc}
-use lib.ListN.{length, getD, take, drop, set, length-set, length-append, length-drop, drop-of-length-le}
-use lib.Seq.{sets, length-sets, sets-eq, getD-set-same, getD-set-other, getD-drop, drop-drop, take-at, length-take-le, drop-cons}
+use lib.ListN.{length, getD, take, drop, set, length-set, length-append, length-drop}
+use lib.Seq.{sets, length-sets, sets-eq, getD-set-same, getD-set-other, getD-drop, drop-drop, take-at, length-take-le}
 use Rattle.meaning.specs.declared.Kind.{Kind}
 use Rattle.meaning.specs.declared.Refusal.{Refusal}
 use Rattle.meaning.specs.declared.Refusal.the-variants.{WrongKind, WrongLength}
 use Rattle.meaning.specs.Codes.{nesting-limit, Out, ok, refused, after, _>>_, give, check}
 use Rattle.meaning.specs.Tree.{Name, Unary, Binary, table, unary-table, Expr, number, boolean, name, current-mask, unary, binary}
 use Rattle.meaning.specs.Program as P
-use Rattle.meaning.specs.Program.{Code, constant}
+use Rattle.meaning.specs.Program.{constant}
 use Rattle.meaning.specs.Memory.{Declarations}
 use Rattle.meaning.specs.Services.{kind-number}
 use Rattle.meaning.specs.Typing as T
@@ -22,10 +22,10 @@ use Rattle.meaning.specs.Typing.{Types, typed}
 use Rattle.layout.specs.Words.{unit, binary-tag, unary-tag, flat}
 use Rattle.layout.specs.Code.{code-words}
 use Rattle.layout.specs.Table.{kind-of, entries}
-use Rattle.layout.specs.Sound.{Spelled, stack, stack-limit, Names, of-number, of-boolean, of-name, of-mask, of-unary, of-binary, Sound}
+use Rattle.layout.specs.Sound.{Spelled, stack, stack-limit, Names, of-number, of-boolean, of-name, of-mask, of-unary, of-binary}
 use Rattle.typing.specs.declared.Typing.{Typing}
 use Rattle.typing.specs.declared.Typing.the-variants.{Typed, Refused}
-use Rattle.typing.specs.Nodes.{Node, a-number, a-boolean, a-name, a-mask, a-unary, a-binary, nodes, node-tag, node-first, node-second, nodes-words, code-tag, arity, Entry, Slot, step, slots, Is-node, Node-at}
+use Rattle.typing.specs.Nodes.{Node, a-number, a-boolean, a-name, a-mask, a-unary, a-binary, nodes, node-tag, node-first, node-second, nodes-words, code-tag, arity, Entry, Slot, step, slots, Node-at}
 use Rattle.typing.specs.Answers.{There-is, Expression, entry-out, Steps, typed-out, Ready, Shows}
 use Rattle.typing.proofs.Tags.{kind-back}
 

@@ -13,7 +13,7 @@ use Rattle.meaning.specs.Tree.{Name, Unary, Binary, Takes, ints, alike, Gives, 
 use Rattle.meaning.specs.Memory.{bit}
 use Rattle.meaning.specs.Services.{kind-number}
 use Rattle.meaning.specs.Typing.{Types, same-kind, accepts, gives-kind, match, joined, variable-named}
-use Rattle.layout.specs.Words.{unit, binary-tag, unary-tag, boolean-tag}
+use Rattle.layout.specs.Words.{binary-tag, unary-tag, boolean-tag}
 use Rattle.layout.specs.Table.{kind-of}
 use Rattle.layout.specs.Sound.{Spelled, stack-limit}
 

@@ -1,5 +1,4 @@
 -- `listing::kind_number` meets its contract. Assumes nothing.
-use mathlib.Core.Path.{refl}
 use Rattle.meaning.specs.Services.{kind-number}
 use Rattle.layout.specs.Table.{kind-of}
 use Rattle.listing.proofs.Laws.{not-int}

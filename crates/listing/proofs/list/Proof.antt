@@ -1,11 +1,9 @@
 use borrow.Author.Needs.{needs}
 -- `listing::list` meets its contract. The loop's invariant: the first i records are written. Assumes nothing.
-use Prim.Native.Nat.{suc, _+_, _*_, _-_, _≤_, _<_}
+use Prim.Native.Nat.{_+_, _*_, _-_, _≤_}
 use mathlib.Core.Path.{_≡_}
 use native.Mathlib.Omega.{arith}
 use native.Mathlib.Numerals.{add-one}
-use native.Mathlib.Nat.{add-zero}
-use lib.ListN.{length}
 use Rattle.listing.proofs.Laws.{Listing, listing-start, listing-more, listing-length, all-listed, full-listed}
 use Rattle.listing.proofs.list.Statement.{statement}
 use Rattle.listing.proofs.list.Tie as tie
