@@ -1,7 +1,4 @@
-pub mod Words
 pub mod Shapes
-pub mod Listed
-pub mod Outcomes
 pub mod Walk
 pub mod Sequence
 pub mod Coincide

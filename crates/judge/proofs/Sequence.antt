@@ -19,13 +19,14 @@ use Rattle.layout.specs.Sound.{Walkable, All-walkable, of-none, of-more}
 use Rattle.typing.specs.Rows.{Rows}
 use Rattle.typing.specs.Answers.{There-is, Ready}
 use Rattle.typing.proofs.Walk.{after-after, after-same}
-use Rattle.judge.specs.declared.Walked.{Walked}
-use Rattle.judge.specs.declared.Walked.the-variants.{On, Refused}
-use Rattle.judge.specs.Shapes.{part, Statement, Statements}
-use Rattle.judge.specs.Answers.{Written, Walks}
-use Rattle.judge.proofs.Words.{part-next, drop-next, length-part, then}
-use Rattle.judge.proofs.Outcomes
-use Rattle.judge.proofs.Walk.{ready-again}
+use Rattle.simple.specs.declared.Walked.{Walked}
+use Rattle.simple.specs.declared.Walked.the-variants.{On, Refused}
+use Rattle.simple.specs.Shapes.{part}
+use Rattle.judge.specs.Shapes.{Statement, Statements}
+use Rattle.simple.specs.Answers.{Written, Walks}
+use Rattle.simple.proofs.Words.{part-next, drop-next, length-part, then}
+use Rattle.simple.proofs.Outcomes
+use Rattle.simple.proofs.Walk.{ready-again}
 
 -- ---- a sequence as a list, the first statement first
 pub in-order : Stmts → List Stmt

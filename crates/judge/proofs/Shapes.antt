@@ -1,28 +1,19 @@
 -- The first word of a statement says what it is, and where its parts stand.
-use Prim.Native.Nat.{ℕ, zero, suc, _+_, _-_, _≤_, _<_}
+use Prim.Native.Nat.{ℕ, suc, _+_, _-_, _≤_, _<_}
 use native.Mathlib.Omega.{arith}
-use mathlib.Core.Path.{_≡_, refl, sym, ap, _∙_}
-use mathlib.Core.List.{List, [], _∷_, _++_}
-use mathlib.Core.Bool.{Bool, true, false, _||_, true≢false}
-use mathlib.Core.Option.{Option, none, some}
-use lib.Dec.{eqb}
-use borrow.Author.Tests.{ne-eqb}
-use lib.ListN.{length, getD, take, drop, length-append}
-use lib.Seq.{take-all}
+use mathlib.Core.Path.{_≡_, refl}
+use mathlib.Core.List.{List, _++_}
+use mathlib.Core.Option.{Option}
+use lib.ListN.{length, getD, length-append}
 use Rattle.meaning.specs.declared.Kind.{Kind}
 use Rattle.meaning.specs.declared.Kind.the-variants.{Int as int, Bool as bool}
-use Rattle.meaning.specs.Codes.{_among_, lengths}
 use Rattle.meaning.specs.Tokens.{the, numbered, reserved, words, signs, marks}
-use Rattle.meaning.specs.Tree.{Name, Expr, Block, Stmt, empty, braces, declare, assign, if-else, while, scalar, Stmts}
-use Rattle.layout.specs.Words.{unit, flat, headed, kind-tag, block-length, block-place, value-place, value-words, flat-stmt, flat-stmts}
-use Rattle.layout.specs.Sound.{Sound, Spelled, Placed, no-block, at-place, Valued, no-value, a-value, Walkable, of-empty, of-braces, of-declare, of-assign, of-if, of-while, of-scalar}
-use Rattle.meaning.specs.Typing.{lanes-or}
-use Rattle.typing.specs.Rows.{Listed}
-use Rattle.typing.specs.Answers.{Expression}
-use Rattle.typing.proofs.Tables.{listed-some}
-use Rattle.judge.specs.Shapes.{listed-block, part, Statement, Statements, Empty, Braces, Declaration, Plain, Initial, Assignment, Choice, Cycle, Alone}
-use Rattle.judge.specs.Answers.{length-or}
-use Rattle.judge.proofs.Words.{part-next, drop-next, part-last}
+use Rattle.meaning.specs.Tree.{Name, Expr, Block, Stmt, braces, declare, assign, if-else, while, scalar}
+use Rattle.layout.specs.Words.{flat, headed, kind-tag, value-words, flat-stmt, flat-stmts}
+use Rattle.layout.specs.Sound.{Spelled, Placed, Valued, Walkable, of-empty, of-braces, of-declare, of-assign, of-if, of-while, of-scalar}
+use Rattle.simple.specs.Shapes.{Empty, Declaration, Assignment}
+use Rattle.judge.specs.Shapes.{Statement, Braces, Choice, Cycle, Alone}
+use Rattle.simple.proofs.Words.{part-next, drop-next, part-last}
 
 -- A statement of at most n levels, by its tag.
 pub data Shape (text : List ℕ) (n : ℕ) (words : List ℕ) (s : Stmt) : ℕ → Type 0 where
@@ -153,63 +144,3 @@ module _ {text words : List ℕ} {n : ℕ} {s : Stmt} where
   declare-shape (an-alone l x) e b n i w c = absurd (c refl)
   declare-shape (an-empty x) e b n i w c = absurd (e refl)
   declare-shape (some-braces l x) e b n i w c = absurd (b refl)
-
--- ---- the first words of a declaration
-pub named-int : (k : Kind) → kind-tag k ≡ 16 → int ≡ k
-unfolding kind-tag the numbered reserved words signs marks
-named-int int h = refl
-named-int bool h = absurd (omega arith)
-
-pub named-bool : (k : Kind) → (kind-tag k ≡ 16 → ⊥) → bool ≡ k
-unfolding kind-tag the numbered reserved words signs marks
-named-bool int h = absurd (h refl)
-named-bool bool h = refl
-
--- A place of 0 says that there is no block.
-pub block-listed : {b : Block} {n p : ℕ} → Placed b → block-length b ≡ n → block-place b ≡ p → (eqb p 0 || n among lengths) ≡ listed-block b
-unfolding block-length block-place listed-block
-block-listed no-block n p = rw (← p)
-block-listed (at-place {p = q} l) n p = rw (← p, ← n, ne-eqb q 0 (λ z. omega arith))
-
-pub length-good : (b : Block) (n : ℕ) → listed-block b ≡ true → length-or (block-length b) n ≡ lanes-or n b
-unfolding listed-block length-or block-length lanes-or
-length-good none n g = refl
-length-good (some m) n g = rw (ne-eqb (m .0) 0 (λ z. absurd (omega (arith, listed-some (record { is = g })))))
-
-pub block-good : (b : Block) → listed-block b ≡ true → eqb (block-length b) 0 ≡ false → Listed (block-length b)
-unfolding listed-block block-length
-block-good none g q = absurd (true≢false q)
-block-good (some m) g q = record { is = g }
-
-pub length-listed : (b : Block) {n : ℕ} → listed-block b ≡ true → Listed n → Listed (length-or (block-length b) n)
-unfolding listed-block lanes-or
-length-listed b {n} g l = rw (length-good b n g) (go b g)
-  where
-    go : (b : Block) → listed-block b ≡ true → Listed (lanes-or n b)
-    go none h = l
-    go (some m) h = record { is = h }
-
--- The place of `=` is 0 where there is no value.
-module _ {text tree : List ℕ} {s : Stmt} {k : Kind} {b : Bool} (d : Declaration text tree s) (ek : k ≡ d .kind) (eb : b ≡ listed-block (d .block)) (yes : b ≡ true) where
-  pub without-value : getD tree 7 0 ≡ 0 → Plain text tree k s
-  unfolding value-place
-  without-value z = record { shape = d; kind-is = sym ek; good = sym eb ∙ yes; no-value = go (d .valued) (d .equals ∙ z) }
-    where
-      go : {v : Option (ℕ × Expr)} → Valued text v → value-place v ≡ 0 → v ≡ none
-      go no-value h = refl
-      go (a-value l x) h = absurd (omega arith)
-
-  pub with-value : (getD tree 7 0 ≡ 0 → ⊥) → Initial text tree k s
-  unfolding value-place value-words
-  with-value z = go (d .value) refl (d .valued) (d .equals) (d .value-is)
-    where
-      go : (v : Option (ℕ × Expr)) → d .value ≡ v → Valued text v → value-place v ≡ getD tree 7 0 → part tree 9 (length tree) ≡ value-words v → Initial text tree k s
-      go none q w h u = absurd (z (sym h))
-      go (some (p, e)) q (a-value l x) h u = record {
-        shape = d;
-        kind-is = sym ek;
-        good = sym eb ∙ yes;
-        right = e;
-        its-value = q ∙ rw h;
-        its-right = record { is = u; sound = x };
-      }

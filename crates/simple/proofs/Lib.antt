@@ -1,0 +1,5 @@
+pub mod Words
+pub mod Shapes
+pub mod Outcomes
+pub mod Listed
+pub mod Walk
