@@ -1,94 +1,14 @@
-//! Document 01, "Errors that come easily", and limits that its cases checked by hand do not
-//! reach: for each, a case on the archive that the error would change.
+//! Document 01, "Errors that come easily", on the archive.
 
+use ruihmento as side;
+
+#[path = "../../cases/common.rs"]
 mod common;
+#[path = "../../cases/errors_that_come_easily.rs"]
+mod errors_that_come_easily;
 
-use common::{after, ints, ints_after, routine_memory, verdict, ROUTINE};
-use ruihmento::variables;
-
-/// "Running an inner else under not-m alone: in the routine above 90 becomes 80."
-#[test]
-fn inner_else_runs_under_the_outer_mask_too() {
-    let (answer, memory) = after(ROUTINE, &routine_memory());
-    assert_eq!(answer, [0, 0, 48, 8]);
-    assert_eq!(memory[16..32], ints(&[14, 7, 15, 90]));
-}
-
-/// "Testing the condition again for the else branch: the 9,0 case becomes 0,0."
-#[test]
-fn condition_is_evaluated_once() {
-    let text = "int block[2] a; if (a < 5) a = 9; else a = 0;";
-    assert_eq!(ints_after(text, &[1, 7]).1, [9, 0]);
-    let text = "int a; if (a < 5) a = 9; else a = 0;";
-    assert_eq!(ints_after(text, &[1]), (3, vec![9]));
-}
-
-/// "Writing zero, or the old value of another lane, in masked lanes."
-#[test]
-fn masked_lanes_keep_their_bytes() {
-    let text = "int block[4] v; int block[4] w; if (v < 0) w = v; else ;";
-    let (_, values) = ints_after(text, &[1, -2, 3, -4, 10, 20, 30, 40]);
-    assert_eq!(values[4..], [10, -2, 30, -4]);
-}
-
-/// A masked bool keeps its very byte, and a true is written as 1.
-#[test]
-fn masked_bools_keep_their_bytes() {
-    let text = "bool block[4] m; bool block[4] b; if (m) b = !b; else ;";
-    let (_, memory) = after(text, &[0, 7, 0, 1, 255, 255, 0, 0]);
-    assert_eq!(memory, [0, 7, 0, 1, 255, 0, 0, 1]);
-}
-
-/// "Reusing a closed scope's bytes: a bool block and a later int block then mix lanes."
-#[test]
-fn closed_scopes_keep_their_bytes() {
-    let text = "{ bool block[16] b = true; } { int block[4] v = 7; } int s;";
-    let listed = variables(text.as_bytes()).unwrap();
-    let addresses: Vec<_> = listed.list.iter().map(|v| v.address).collect();
-    assert_eq!(addresses, [0, 16, 32]);
-    let (answer, memory) = after(text, &[9; 40]);
-    assert_eq!(answer, [0, 0, 36, 3]);
-    assert_eq!(memory[..16], [1; 16]);
-    assert_eq!(memory[16..32], ints(&[7, 7, 7, 7]));
-    assert_eq!(memory[32..], [9; 8]);
-}
-
-/// "Letting a lane back into a loop after `scalar` has changed its value."
-#[test]
-fn lane_that_left_a_loop_stays_out() {
-    let text = "int block[2] n; int block[2] c; int t; \
-        while (0 < n) { c = c + 1; n = n - 1; scalar { t = t + 1; if (t == 2) n = 1; else ; } }";
-    // From 1, 2: lane 0 leaves at the second test; the second body sets both lanes to 1.
-    let (_, values) = ints_after(text, &[1, 2, 0, 0, 0, 0, 0, 0]);
-    assert_eq!(values[..5], [1, 0, 1, 3, 3]);
-}
-
-#[test]
-fn name_of_31_bytes_is_accepted_and_of_32_refused() {
-    let declared = |length: usize| format!("int {};", "a".repeat(length));
-    assert_eq!(verdict(declared(31)), (0, 0));
-    assert_eq!(verdict(declared(32)), (2, 4));
-}
-
-#[test]
-fn declaration_65_is_refused() {
-    let declared = |count: usize| -> String {
-        let declarations = (0..count).map(|number| format!("int v{number};"));
-        declarations.collect()
-    };
-    assert_eq!(verdict(declared(64)), (0, 0));
-    assert_eq!(verdict(declared(65)), (11, declared(64).len() as u32 + 4));
-}
-
-#[test]
-fn text_of_4096_bytes_is_accepted_and_of_4097_refused() {
-    assert_eq!(verdict(";".repeat(4096)), (0, 0));
-    assert_eq!(verdict(";".repeat(4097)), (1, 0));
-}
-
-#[test]
-fn greatest_need_is_4096() {
-    let text: String = (0..64).map(|v| format!("int block[16] v{v};")).collect();
-    assert_eq!(after(&text, &[3; 4096]), ([0, 0, 4096, 64], vec![3; 4096]));
-    assert_eq!(after(&text, &[3; 4095]), ([12, 0, 4096, 0], vec![3; 4095]));
+/// Where the variables of an accepted text lie, in text order.
+fn addresses(text: &str) -> Vec<usize> {
+    let listed = side::variables(text.as_bytes()).unwrap();
+    listed.list.iter().map(|row| row.address).collect()
 }

@@ -1,5 +1,8 @@
 //! Document 01, "The text": nesting, by every way of opening a level.
 
+use oracle as side;
+
+#[path = "../../cases/common.rs"]
 mod common;
 
 use common::verdict;

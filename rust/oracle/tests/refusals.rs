@@ -1,5 +1,8 @@
 //! Document 01, "The text", "Typing" and "Codes": each refusal, its place and its order.
 
+use oracle as side;
+
+#[path = "../../cases/common.rs"]
 mod common;
 
 use common::{numbers, verdict};

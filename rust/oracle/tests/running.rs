@@ -1,5 +1,8 @@
 //! Document 01, "Memory" and "Execution": values, addresses and steps.
 
+use oracle as side;
+
+#[path = "../../cases/common.rs"]
 mod common;
 
 use common::{after, ints, ints_after, numbers};

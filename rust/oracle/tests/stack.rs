@@ -1,5 +1,8 @@
 //! Long and deep texts on a thread with a stack of 256 KiB.
 
+use oracle as side;
+
+#[path = "../../cases/common.rs"]
 mod common;
 
 use common::numbers;

@@ -1,5 +1,8 @@
 //! The mask of the step that is due.
 
+use oracle as side;
+
+#[path = "../../cases/common.rs"]
 mod common;
 
 use common::ints;

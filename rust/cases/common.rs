@@ -1,7 +1,8 @@
-//! What the tests share: answers as four numbers, memories as ints.
+//! What the tests of both sides share: answers as four numbers, memories as ints. A test names the side that it is
+//! about: `use ruihmento as side` or `use oracle as side`.
 #![allow(dead_code)]
 
-use ruihmento::{judge, run, Answer};
+use crate::side::{judge, run, Answer};
 
 /// A budget that suffices for every run here that ends.
 pub const PLENTY: u32 = 10_000;
