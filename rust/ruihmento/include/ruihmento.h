@@ -15,8 +15,9 @@
  *    the answer slice; its later bytes stay. The call then returns 1. Where
  *    the answer slice is shorter than 16 bytes the call returns 0, and
  *    nothing else happens.
- *  - Nothing is allocated, and a call uses a fixed amount of stack, below
- *    256 KiB. Calls on different slices may be made from several threads.
+ *  - Nothing is allocated, and a call uses less than 256 KiB of stack,
+ *    whatever the text. Calls on different slices may be made from several
+ *    threads.
  *
  * The four numbers are code, place, need and steps:
  *
