@@ -13,10 +13,10 @@ use Rattle.meaning.specs.Tree.{Stmts}
 use Rattle.meaning.specs.Reading.{read}
 use Rattle.meaning.specs.Typing.{typed-program}
 use Rattle.meaning.specs.Program.{Program}
-use Rattle.meaning.specs.Memory.{Memory, Declarations, need, fetch, update}
+use Rattle.meaning.specs.Memory.{Memory, Declarations, need}
 use Rattle.meaning.specs.Running as R
-use Rattle.meaning.specs.Running.{Ran, spent, done}
-use Rattle.meaning.specs.Services.{answer, pass, judged, verdict, judge, ended, executed, run}
+use Rattle.meaning.specs.Running.{Ran, stopped, done}
+use Rattle.meaning.specs.Services.{answer, pass, judged, verdict, judge, evaluate, effect, ended, executed, run}
 use Rattle.lex.proofs.Spelled.{Spelled, the-last, one-more, lexed-accepted, lexed-refused}
 use Rattle.answers.specs.Near.{Within, fine, at-most, Near-stmts, Near-program, Stops, near-done, near-spent}
 use Rattle.answers.proofs.Reading.{read-within}
@@ -32,7 +32,7 @@ token-near (one-more l h s) zero = omega (arith, h .inside)
 token-near (one-more l h s) (suc i) = token-near s i
 
 module _ (text : List ℕ) where
-  judged-within : Within (length text) (Near-program (length text)) (judged text)
+  pub judged-within : Within (length text) (Near-program (length text)) (judged text)
   unfolding judged pass
   judged-within = tokens (lexed text) refl
     where
@@ -56,17 +56,17 @@ module _ (text : List ℕ) where
   unfolding run executed ended answer
   run-place M budget = go (judged text) judged-within
     where
-      over : (n : ℕ) (r : Ran Memory) → Stops (length text) r → (ended n budget r) .0 .place ≤ length text
-      over n (done M′ left) near-done = omega arith
-      over n (spent p M′) (near-spent l) = l
+      over : (n : ℕ) (r : Ran Memory) → Stops (length text) budget r → (ended n budget r) .0 .place ≤ length text
+      over n (done M′ left) (near-done l) = omega arith
+      over n (stopped c p M′ b) (near-spent l) = l
 
-      room : (n : ℕ) (r : Ran Memory) → Stops (length text) r → (b : Bool) → (if b then (λ _. ended n budget r) else λ _. (answer 12 0 n 0, M)) .0 .place ≤ length text
+      room : (n : ℕ) (r : Ran Memory) → Stops (length text) budget r → (b : Bool) → (if b then (λ _. ended n budget r) else λ _. (answer 12 0 n 0, M)) .0 .place ≤ length text
       room n r h true = over n r h
       room n r h false = omega arith
 
       go : (o : Out Declarations Program) → Within (length text) (Near-program (length text)) o → (executed M budget o) .0 .place ≤ length text
       go (ok P Γ) (fine h) =
-          room (need Γ) (R.run (fetch Γ) (update Γ) P (true ∷ []) budget M) (run-stops (length text) (fetch Γ) (update Γ) P h (true ∷ []) budget M) (leb (need Γ) (length M))
+          room (need Γ) (R.run (evaluate Γ) (effect Γ) P (true ∷ []) budget M) (run-stops (length text) (evaluate Γ) (effect Γ) P h (true ∷ []) budget M) (leb (need Γ) (length M))
       go (refused c p) (at-most l) = l
 
   -- A text that is too long is refused at 0, so that no place is above the limit of a text.

@@ -10,7 +10,7 @@ use Rattle.meaning.specs.declared.Kind.{Kind}
 use Rattle.meaning.specs.declared.Refusal.the-variants.{NotAllowed}
 use Rattle.meaning.specs.Codes.{after, give, refuse, option, lookup, repeat, if_then_else_, _among_, nesting-limit}
 use Rattle.meaning.specs.Tokens.{Token, end-at, the}
-use Rattle.meaning.specs.Tree.{Binary, Unary, neg, inv, not, levels, Expr, number, name, unary, binary, Block, Stmt, Stmts, none-yet, _⨾_}
+use Rattle.meaning.specs.Tree.{kinds, Binary, Unary, neg, inv, not, levels, Expr, number, name, unary, binary, Block, Stmt, Stmts, none-yet, _⨾_}
 use Rattle.meaning.specs.Reading.{Reads, After, _⇒_, operator, look, next, choose, expect, as-long, more, binaries, operand, no-room, closed, unaries, expression, parenthesised, block, declaration, assignment, condition, opening, another, sequence, statement-over, statement, read, begins}
 use Rattle.answers.specs.Near.{Within, fine, at-most, Near, near-number, near-boolean, near-name, near-mask, near-unary, near-binary, Near-block, near-no-block, near-block, near-no-value, near-value, Near-stmt, near-empty, near-braces, near-declare, near-assign, near-if, near-while, near-scalar, Near-stmts, near-none, near-more}
 use Rattle.answers.proofs.Outcomes.{followed, passed, repeated}
@@ -174,7 +174,7 @@ module _ (N : ℕ) (ts : List Token) (near : (i : ℕ) → (getD ts i (end-at 0)
     part = opening-gives deep deeper
 
     statement-over-gives : Gives (Near-stmt N) (statement-over ts r deep braced)
-    unfolding statement-over _⇒_
+    unfolding statement-over _⇒_ kinds
     statement-over-gives = choose-gives (Near-stmt N) _
         (case (λ t h. given (near-empty h))
         (case (λ t h. goes-on (braced t) _ (inside t h) (λ l k. given (near-braces k)))

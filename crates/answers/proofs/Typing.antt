@@ -10,10 +10,10 @@ use Rattle.meaning.specs.declared.Kind.{Kind}
 use Rattle.meaning.specs.declared.Kind.the-variants.{Bool as bool}
 use Rattle.meaning.specs.declared.Refusal.the-variants.{UnknownName, AlreadyOpen, LengthNotListed, WrongKind, WrongLength, LengthOneTarget, TooManyDeclarations}
 use Rattle.meaning.specs.Codes.{after, give, refuse, check, option, _among_, lengths, declaration-limit}
-use Rattle.meaning.specs.Tree.{Name, table, unary-table, Expr, number, boolean, name, current-mask, unary, binary, Block, Stmt, empty, braces, declare, assign, if-else, while, scalar, Stmts, none-yet, _⨾_}
+use Rattle.meaning.specs.Tree.{Name, same-kind, _one-of_, table, unary-table, Expr, number, boolean, name, current-mask, unary, binary, Block, Stmt, empty, braces, declare, assign, if-else, while, scalar, Stmts, none-yet, _⨾_}
 use Rattle.meaning.specs.Program.{Program}
 use Rattle.meaning.specs.Memory.{Declared, Declarations, declared}
-use Rattle.meaning.specs.Typing.{Types, Typed, same-kind, accepts, match, joined, fits, find, variable-named, typed, typed-condition, storable, declare-name, good-block, lanes-or, typed-declaration, scope, typed-statement, typed-statements, typed-program}
+use Rattle.meaning.specs.Typing.{Types, Typed, accepts, match, joined, fits, find, variable-named, typed, typed-condition, storable, declare-name, good-block, lanes-or, typed-declaration, scope, typed-statement, typed-statements, typed-program}
 use Rattle.answers.specs.Near.{Within, fine, at-most, Near, near-number, near-boolean, near-name, near-mask, near-unary, near-binary, Near-block, near-no-block, near-block, Near-value, near-no-value, near-value, Near-stmt, near-empty, near-braces, near-declare, near-assign, near-if, near-while, near-scalar, Near-stmts, near-none, near-more, Near-program, near-nothing, near-step, near-put, near-both, near-choice, near-cycle, near-alone}
 use Rattle.answers.proofs.Outcomes.{followed, passed}
 
@@ -38,7 +38,7 @@ module _ (N : ℕ) where
   typed-within C current-mask Γ near-mask = fine tt
   typed-within C (unary p o e) Γ (near-unary l h) =
       followed N (typed C e Γ) _ (typed-within C e Γ h) (λ a Δ _.
-      passed N (same-kind (a .kind) ((unary-table o) .1)) WrongKind p Δ _ l (fine tt))
+      passed N (a .kind one-of (unary-table o) .1) WrongKind p Δ _ l (fine tt))
   typed-within C (binary p o e e′) Γ (near-binary l h h′) =
       followed N (typed C e Γ) _ (typed-within C e Γ h) (λ a Δ _.
       followed N (typed C e′ Δ) _ (typed-within C e′ Δ h′) (λ b Δ′ _.

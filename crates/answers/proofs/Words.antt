@@ -7,15 +7,17 @@ use lib.Dec.{leb}
 use lib.ListN.{length}
 use Rattle.meaning.specs.Codes.{code, Out, ok, refused, if_then_else_, nesting-limit, declaration-limit, text-limit}
 use Rattle.meaning.specs.Program.{Program}
-use Rattle.meaning.specs.Memory.{Memory, Declarations, need, fetch, update}
+use Rattle.meaning.specs.Memory.{Memory, Declarations, need}
 use Rattle.meaning.specs.Running as R
-use Rattle.meaning.specs.Running.{Ran, spent, done}
-use Rattle.meaning.specs.Services.{Answer, answer, judged, ended, executed, run}
+use Rattle.meaning.specs.Running.{Ran, stopped, done}
+use Rattle.meaning.specs.Services.{Answer, answer, judged, evaluate, effect, ended, executed, run}
 use Rattle.layout.specs.Sound.{Runnable, Laid}
 use Rattle.limits.proofs.Outcomes.{Ends, well, not}
 use Rattle.limits.proofs.Accepted.{judged-ends}
 use Rattle.answers.specs.Words.{Words}
-use Rattle.answers.proofs.Places.{run-place-low}
+use Rattle.answers.specs.Near.{Within, fine, at-most, Near-program, Stops, near-done, near-spent}
+use Rattle.answers.proofs.Running.{run-stops}
+use Rattle.answers.proofs.Places.{judged-within, run-place-low}
 
 -- Code, need and steps are small.
 record Small (budget : ℕ) (a : Answer) : Type 0 where
@@ -33,19 +35,20 @@ small-need Γ l = omega (arith, l .few, l .small)
 
 run-small : (text M : List ℕ) (budget : ℕ) → Small budget ((run text M budget) .0)
 unfolding run executed ended
-run-small text M budget = go (judged text) (judged-ends text)
+run-small text M budget = go (judged text) (judged-ends text) (judged-within text)
   where
-    over : (n : ℕ) → n ≤ 4096 → (r : Ran Memory) → Small budget ((ended n budget r) .0)
-    over n few (spent p M′) = small budget 13 p n budget (omega arith) few (omega arith)
-    over n few (done M′ left) = small budget 0 0 n (budget - left) (omega arith) few (omega arith)
+    over : (n : ℕ) → n ≤ 4096 → (r : Ran Memory) → Stops (length text) budget r → Small budget ((ended n budget r) .0)
+    over n few (stopped c p M′ left) (near-spent l) = small budget 13 p n (budget - left) (omega arith) few (omega arith)
+    over n few (done M′ left) (near-done l) = small budget 0 0 n (budget - left) (omega arith) few (omega arith)
 
-    room : (n : ℕ) → n ≤ 4096 → (r : Ran Memory) (b : Bool) → Small budget ((if b then (λ _. ended n budget r) else λ _. (answer 12 0 n 0, M)) .0)
-    room n few r true = over n few r
-    room n few r false = small budget 12 0 n 0 (omega arith) few (omega arith)
+    room : (n : ℕ) → n ≤ 4096 → (r : Ran Memory) → Stops (length text) budget r → (b : Bool) → Small budget ((if b then (λ _. ended n budget r) else λ _. (answer 12 0 n 0, M)) .0)
+    room n few r h true = over n few r h
+    room n few r h false = small budget 12 0 n 0 (omega arith) few (omega arith)
 
-    go : (o : Out Declarations Program) → Ends (λ P Γ. Runnable (length Γ) nesting-limit P × Laid Γ) o → Small budget ((executed M budget o) .0)
-    go (ok P Γ) (well k) = room (need Γ) (small-need Γ (k .1)) (R.run (fetch Γ) (update Γ) P (true ∷ []) budget M) (leb (need Γ) (length M))
-    go (refused c p) (not l) = small budget (code c) p 0 0 (omega arith) (omega arith) (omega arith)
+    go : (o : Out Declarations Program) → Ends (λ P Γ. Runnable (length Γ) nesting-limit P × Laid Γ) o → Within (length text) (Near-program (length text)) o → Small budget ((executed M budget o) .0)
+    go (ok P Γ) (well k) (fine h) =
+        room (need Γ) (small-need Γ (k .1)) (R.run (evaluate Γ) (effect Γ) P (true ∷ []) budget M) (run-stops (length text) (evaluate Γ) (effect Γ) P h (true ∷ []) budget M) (leb (need Γ) (length M))
+    go (refused c p) (not l) (at-most l′) = small budget (code c) p 0 0 (omega arith) (omega arith) (omega arith)
 
 pub run-words : (text M : List ℕ) (budget : ℕ) → budget < 2 ^ 32 → Words ((run text M budget) .0)
 unfolding text-limit

@@ -4,10 +4,11 @@ use mathlib.Core.Bool.{Bool}
 use mathlib.Core.Option.{Option, none, some}
 use Rattle.meaning.specs.declared.Kind.{Kind}
 use Rattle.meaning.specs.declared.Refusal.{Refusal}
+use Rattle.meaning.specs.declared.Refusal.the-variants.{BudgetSpent}
 use Rattle.meaning.specs.Codes.{Out, ok, refused}
 use Rattle.meaning.specs.Tree.{Name, Unary, Binary, Expr, number, boolean, name, current-mask, unary, binary, Block, Stmt, empty, braces, declare, assign, if-else, while, scalar, Stmts, none-yet, _⨾_}
 use Rattle.meaning.specs.Program.{Code, Program, nothing, step, put, both, choice, cycle, alone}
-use Rattle.meaning.specs.Running.{Ran, spent, done}
+use Rattle.meaning.specs.Running.{Ran, stopped, done}
 
 -- An outcome: a value with P, or a refusal at a place of at most N.
 pub data Within {S A : Type 0} (N : ℕ) (P : A → Type 0) : Out S A → Type 0 where
@@ -53,7 +54,7 @@ pub data Near-program (N : ℕ) : Program → Type 0 where
   near-cycle : {p : ℕ} {e : Code} {s : Program} → p ≤ N → Near-program N s → Near-program N (cycle p e s)
   near-alone : {s : Program} → Near-program N s → Near-program N (alone s)
 
--- A run that ends, or spends its budget at a place of at most N.
-pub data Stops {S : Type 0} (N : ℕ) : Ran S → Type 0 where
-  near-done : {σ : S} {left : ℕ} → Stops N (done σ left)
-  near-spent : {p : ℕ} {σ : S} → p ≤ N → Stops N (spent p σ)
+-- A run of budget b that ends, or spends its whole budget and stops at a place of at most N.
+pub data Stops {S : Type 0} (N b : ℕ) : Ran S → Type 0 where
+  near-done : {σ : S} {left : ℕ} → left ≤ b → Stops N b (done σ left)
+  near-spent : {p : ℕ} {σ : S} → p ≤ N → Stops N b (stopped BudgetSpent p σ 0)

@@ -10,7 +10,7 @@ use lib.ListN.{length}
 use Rattle.meaning.specs.Codes.{if_then_else_}
 use Rattle.meaning.specs.Program.{Code, Program}
 use Rattle.meaning.specs.Memory.{Value, Mask, truth, Declarations}
-use Rattle.meaning.specs.Running.{value, Ran, spent, done, Run, and-then, costs, mask-and, mask-and-not, unless-empty, branches, while-left, loop, run}
+use Rattle.meaning.specs.Running.{value, Event, passes, stores, Ran, stopped, done, Run, and-then, costs, mask-and, mask-and-not, unless-empty, branches, while-left, loop, evaluating, testing, run}
 use Rattle.meaning.specs.Typing.{joined}
 use Rattle.lane.specs.Lane.{seat}
 use Rattle.lane.specs.Values.{lane}
@@ -18,7 +18,7 @@ use Rattle.lane.proofs.Tests.{and-l, and-r}
 use Rattle.lane.proofs.Lanes.{Spreads, Reaches, joined-many, reaches-joined, length-mask-and, length-mask-and-not, lane-mask-and, lane-mask-and-not, active-is-some}
 use Rattle.lane.proofs.Sound.{no-alone, Fits, lanes-of, Has, has-fits, has-reaches, mask-spreads, fits-body, joined-body, Sound, a-nothing, a-step, a-put, a-both, a-choice, a-cycle, an-alone}
 use Rattle.lane.proofs.Values.{value-length, value-lane}
-use Rattle.lane.proofs.Masked.{Still, Leaves, Off, Quiet, quiet-then, quiet-unless, quiet-loop, run-quiet}
+use Rattle.lane.proofs.Masked.{Still, Leaves, Off, Quiet, quiet-then, quiet-unless, Quiet-test, quiet-loop, quiet-testing, by, run-quiet}
 
 -- One true lane.
 abbrev pub one-true : Mask
@@ -26,17 +26,18 @@ one-true = true ∷ []
 
 -- `R σ τ`: the narrow state τ holds lane i of the full state σ. It reads that lane, follows a write with that lane on, and has
 -- nothing to do at one with that lane off.
-pub record Holds {S S′ : Type 0} (Γ : Declarations) (i : ℕ) (get : S → ℕ → Value) (set : S → ℕ → Mask → Value → S)
-    (get′ : S′ → ℕ → Value) (set′ : S′ → ℕ → Mask → Value → S′) (R : S → S′ → Type 0) : Type 0 where
-  pub still : (τ : S′) → Still Γ i get set (λ σ. R σ τ)
+pub record Holds {S S′ : Type 0} (Γ : Declarations) (i : ℕ) (get : S → ℕ → Value) (effect : S → Event → S)
+    (get′ : S′ → ℕ → Value) (effect′ : S′ → Event → S′) (R : S → S′ → Type 0) : Type 0 where
+  pub still : (τ : S′) → Still Γ i get effect (λ σ. R σ τ)
   pub reads : (σ : S) (τ : S′) → R σ τ → (x : ℕ) → x < length Γ → get′ τ x ≡ lane 0 (get σ x) i ∷ []
-  pub writes : (σ : S) (τ : S′) → R σ τ → (x : ℕ) (m : Mask) (v : Value) → x < length Γ → Spreads (lanes-of Γ x) (length m) → Spreads (lanes-of Γ x) (length v)
-      → lane false m i ≡ true → R (set σ x m v) (set′ τ x one-true (lane 0 v i ∷ []))
+  pub steps : (σ : S) (τ : S′) → R σ τ → (p : ℕ) → R (effect σ (passes p)) (effect′ τ (passes p))
+  pub writes : (σ : S) (τ : S′) → R σ τ → (p x : ℕ) (m : Mask) (v : Value) → x < length Γ → Spreads (lanes-of Γ x) (length m) → Spreads (lanes-of Γ x) (length v)
+      → lane false m i ≡ true → R (effect σ (stores p x m v)) (effect′ τ (stores p x one-true (lane 0 v i ∷ [])))
 
 -- What ends is followed, with no fewer steps left.
 abbrev pub Followed : {S S′ : Type 0} → (S → S′ → Type 0) → Ran S → Ran S′ → Type 0
-Followed R (spent p σ) o = Unit {0}
-Followed R (done σ b) (spent p τ) = ⊥
+Followed R (stopped c p σ b) o = Unit {0}
+Followed R (done σ b) (stopped c p τ b′) = ⊥
 Followed R (done σ b) (done τ c) = R σ τ × (b ≤ c)
 
 -- A start with lane i on, in a context of length C: the mask, the two budgets and the two states.
@@ -76,8 +77,8 @@ module _ {S S′ : Type 0} (i : ℕ) (R : S → S′ → Type 0) where
   after-then : (r : Ran S) (r′ : Ran S′) (k : ℕ → S → Ran S) (k′ : ℕ → S′ → Ran S′) → Followed R r r′
       → ((b c : ℕ) (σ : S) (τ : S′) → b ≤ c → R σ τ → Followed R (k b σ) (k′ c τ)) → Followed R (and-then r k) (and-then r′ k′)
   unfolding and-then
-  after-then (spent p σ) r′ k k′ h f = tt
-  after-then (done σ b) (spent p τ) k k′ h f = absurd h
+  after-then (stopped c p σ b) r′ k k′ h f = tt
+  after-then (done σ b) (stopped c p τ b′) k k′ h f = absurd h
   after-then (done σ b) (done τ c) k k′ h f = f b c σ τ (h .1) (h .0)
 
   follow-then : (C : ℕ) (r q : Run S) (r′ q′ : Run S′) → Follows C r r′ → Follows C q q′ → Follows C (λ m b σ. and-then (r m b σ) (q m)) (λ m b τ. and-then (r′ m b τ) (q′ m))
@@ -87,20 +88,20 @@ module _ {S S′ : Type 0} (i : ℕ) (R : S → S′ → Type 0) where
 
   -- What the full run does alone: only that, afterwards, and before.
   full-alone : (r : Ran S) (τ : S′) (c : ℕ) → Leaves (λ σ. R σ τ) c r → Followed R r (done τ c)
-  full-alone (spent p σ) τ c h = tt
+  full-alone (stopped c′ p σ b) τ c h = tt
   full-alone (done σ b) τ c h = h
 
   full-after : (r : Ran S) (r′ : Ran S′) (k : ℕ → S → Ran S) → Followed R r r′
       → ((b c : ℕ) (σ : S) (τ : S′) → b ≤ c → R σ τ → Leaves (λ σ. R σ τ) c (k b σ)) → Followed R (and-then r k) r′
   unfolding and-then
-  full-after (spent p σ) r′ k h f = tt
-  full-after (done σ b) (spent p τ) k h f = absurd h
+  full-after (stopped c p σ b) r′ k h f = tt
+  full-after (done σ b) (stopped c p τ b′) k h f = absurd h
   full-after (done σ b) (done τ c) k h f = full-alone (k b σ) τ c (f b c σ τ (h .1) (h .0))
 
   full-before : (τ : S′) (c : ℕ) (r : Ran S) (r′ : Ran S′) (k : ℕ → S → Ran S) → Leaves (λ σ. R σ τ) c r
       → ((b : ℕ) (σ : S) → b ≤ c → R σ τ → Followed R (k b σ) r′) → Followed R (and-then r k) r′
   unfolding and-then
-  full-before τ c (spent p σ) r′ k h f = tt
+  full-before τ c (stopped c′ p σ b) r′ k h f = tt
   full-before τ c (done σ b) r′ k h f = f b σ (h .1) (h .0)
 
   follow-costs : (C p : ℕ) (r : Run S) (r′ : Run S′) → Follows C r r′ → Follows C (costs p r) (costs p r′)
@@ -201,68 +202,83 @@ module _ {S S′ : Type 0} (i : ℕ) (R : S → S′ → Type 0) where
       go true e = follow-first C v fits here many s r r′ h e
       go false e = full-alone first (s .state′) (s .budget′) (rest-first C v fits here many s r rest e)
 
+  -- A test gives values of n lanes, and the other test lane i of each.
+  abbrev pub Follow-test : ℕ → ((Value → Run S) → Run S) → ((Value → Run S′) → Run S′) → Type 0
+  Follow-test n test test′ =
+      (D : ℕ) (k : Value → Run S) (k′ : Value → Run S′) → ((v : Value) → length v ≡ n → Follows D (k v) (k′ (lane 0 v i ∷ []))) → Follows D (test k) (test′ k′)
+
   -- The body runs in a context of length B, the tests in D: the loop's own at first, and then B.
-  module _ (n B p : ℕ) (here : Reaches i n) (v : S → Value) (v′ : S′ → Value) (sized : (σ : S) (τ : S′) → R σ τ → length (v σ) ≡ n)
-      (reads : (σ : S) (τ : S′) → R σ τ → v′ τ ≡ lane 0 (v σ) i ∷ []) (r : Run S) (r′ : Run S′) (rests : Rests B r) (h : Follows B r r′) where
-    follow-loop : (k k′ D : ℕ) → k ≤ k′ → Fits D n → joined n D ≡ B → Follows D (loop k p v r) (loop k′ p v′ r′)
+  module _ (n B p : ℕ) (here : Reaches i n) (test : (Value → Run S) → Run S) (test′ : (Value → Run S′) → Run S′) (follows : Follow-test n test test′)
+      (quiet : (τ : S′) → Quiet-test i (λ σ. R σ τ) n test) (r : Run S) (r′ : Run S′) (rests : Rests B r) (h : Follows B r r′) where
+    follow-loop : (k k′ D : ℕ) → k ≤ k′ → Fits D n → joined n D ≡ B → Follows D (loop k p test r) (loop k′ p test′ r′)
     unfolding loop
     follow-loop zero k′ D g fits e s = tt
     follow-loop (suc k) zero D g fits e s = absurd (omega arith)
     follow-loop (suc k) (suc k′) D g fits e s =
         let fits′ = fits-body D n B e in
         let same′ = joined-body D n B e in
-        follow-costs D p (λ m b σ. while-left (v σ) (λ m b σ. and-then (r m b σ) (loop k p v r m)) m b σ)
-        (λ m b τ. while-left (v′ τ) (λ m b τ. and-then (r′ m b τ) (loop k′ p v′ r′ m)) m b τ)
-        (λ s. let z = sized (s .state) (s .state′) (s .holds) in
-        rw (reads (s .state) (s .state′) (s .holds))
-        (follow-while-left D (v (s .state)) (rw z fits) (rw z here) (λ m b σ. and-then (r m b σ) (loop k p v r m)) (λ m b τ. and-then (r′ m b τ) (loop k′ p v′ r′ m))
-        (rw (z, e) (λ τ. quiet-then i (λ σ. R σ τ) B r (loop k p v r) (rests τ) (quiet-loop i (λ σ. R σ τ) n B p here v (λ σ. sized σ τ) r (rests τ) k B fits′ same′)))
-        (rw (z, e) (follow-then B r (loop k p v r) r′ (loop k′ p v′ r′) h (follow-loop k k′ B (omega arith) fits′ same′))) s))
+        follows D (λ v. while-left v (λ m b σ. and-then (r m b σ) (loop k p test r m))) (λ v. while-left v (λ m b τ. and-then (r′ m b τ) (loop k′ p test′ r′ m)))
+        (λ v z s. follow-while-left D v (rw z fits) (rw z here) (λ m b σ. and-then (r m b σ) (loop k p test r m)) (λ m b τ. and-then (r′ m b τ) (loop k′ p test′ r′ m))
+        (rw (z, e) (λ τ. quiet-then i (λ σ. R σ τ) B r (loop k p test r) (rests τ) (quiet-loop i (λ σ. R σ τ) n B p here test (quiet τ) r (rests τ) k B fits′ same′)))
+        (rw (z, e) (follow-then B r (loop k p test r) r′ (loop k′ p test′ r′) h (follow-loop k k′ B (omega arith) fits′ same′))) s)
         s
 
 module _ {S S′ : Type 0} (Γ : Declarations) (i : ℕ) (all : (x : ℕ) → x < length Γ → Reaches i (lanes-of Γ x))
-    (get : S → ℕ → Value) (set : S → ℕ → Mask → Value → S) (get′ : S′ → ℕ → Value) (set′ : S′ → ℕ → Mask → Value → S′)
-    (R : S → S′ → Type 0) (holds : Holds Γ i get set get′ set′ R) where
-  rests : {C : ℕ} {P : Program} → Sound Γ C P → T (no-alone P) → Reaches i C → Rests i R C (run get set P)
-  rests h free here τ = run-quiet Γ i get set (λ σ. R σ τ) (holds .still τ) all h free here
+    (get : S → ℕ → Value) (effect : S → Event → S) (get′ : S′ → ℕ → Value) (effect′ : S′ → Event → S′)
+    (R : S → S′ → Type 0) (holds : Holds Γ i get effect get′ effect′ R) where
+  abbrev go : Program → Run S
+  go = run (by get) effect
 
-  -- The value of an expression, its length, and lane i of it.
-  module _ {C : ℕ} (here : Reaches i C) {e : Code} {n : ℕ} (has : Has Γ C e n) (m : Mask) (z : length m ≡ C) where
-    follow-length : (σ : S) (τ : S′) → R σ τ → length (value e m (get σ)) ≡ n
-    follow-length σ τ w = value-length m z (get σ) (holds .still τ .sized σ w) has
+  abbrev go′ : Program → Run S′
+  go′ = run (by get′) effect′
 
-    follow-value : lane false m i ≡ true → (σ : S) (τ : S′) → R σ τ → value e one-true (get′ τ) ≡ lane 0 (value e m (get σ)) i ∷ []
-    follow-value on σ τ w = rw on at (value-lane m z (get σ) (holds .still τ .sized σ w) i here all (get′ τ) (holds .reads σ τ w) has)
+  rests : {C : ℕ} {P : Program} → Sound Γ C P → T (no-alone P) → Reaches i C → Rests i R C (go P)
+  rests h free here τ = run-quiet Γ i get effect (λ σ. R σ τ) (holds .still τ) all h free here
+
+  -- A step that evaluates e, and a test: of the value lane i.
+  module _ {C : ℕ} (here : Reaches i C) {e : Code} {n : ℕ} (has : Has Γ C e n) (p : ℕ) (m : Mask) (z : length m ≡ C) (on : lane false m i ≡ true) where
+    follow-evaluating : Follow-test i R n (evaluating (by get) effect p e m) (evaluating (by get′) effect′ p e one-true)
+    unfolding evaluating
+    follow-evaluating D k k′ h =
+        follow-costs i R D p (λ m′ b σ. k (value e m (get σ)) m′ b σ) (λ m′ b τ. k′ (value e one-true (get′ τ)) m′ b τ)
+        (λ s. let σ = s .state in let τ = s .state′ in let w = s .holds in
+        rw (rw on at (value-lane m z (get σ) (holds .still τ .sized σ w) i here all (get′ τ) (holds .reads σ τ w) has))
+        (h (value e m (get σ)) (value-length m z (get σ) (holds .still τ .sized σ w) has) s))
+
+    follow-testing : Follow-test i R n (testing (by get) effect p e m) (testing (by get′) effect′ p e one-true)
+    unfolding testing on-next
+    follow-testing D k k′ h =
+        follow-evaluating D (λ v m b σ. k v m b (effect σ (passes p))) (λ v m b τ. k′ v m b (effect′ τ (passes p)))
+        (λ v q s. h v q (on-next i R s (s .budget) (s .budget′) (effect (s .state) (passes p)) (effect′ (s .state′) (passes p)) (s .within) (holds .steps (s .state) (s .state′) (s .holds) p)))
 
   -- The narrow run follows.
-  pub run-follows : {C : ℕ} {P : Program} → Sound Γ C P → T (no-alone P) → Reaches i C → Follows i R C (run get set P) (run get′ set′ P)
+  pub run-follows : {C : ℕ} {P : Program} → Sound Γ C P → T (no-alone P) → Reaches i C → Follows i R C (go P) (go′ P)
   unfolding run no-alone
   run-follows a-nothing free here s = (s .holds, s .within)
-  run-follows {C} (a-step {p = p}) free here s = follow-costs i R C p (λ m b σ. done σ b) (λ m b τ. done τ b) (stay i R C) s
+  run-follows {C} (a-step {p = p}) free here s =
+      follow-costs i R C p (λ m b σ. done (effect σ (passes p)) b) (λ m b τ. done (effect′ τ (passes p)) b) (λ s. (holds .steps (s .state) (s .state′) (s .holds) p, s .within)) s
   run-follows {C} (a-put {p = p} {x = x} {e = e} x-in has to from) free here s =
-      follow-costs i R C p (λ m b σ. done (set σ x m (value e m (get σ))) b) (λ m b τ. done (set′ τ x m (value e m (get′ τ))) b)
-      (λ s. let z = follow-length here has (s .mask) (s .size) (s .state) (s .state′) (s .holds) in
-      rw (follow-value here has (s .mask) (s .size) (s .on) (s .state) (s .state′) (s .holds))
-      (holds .writes (s .state) (s .state′) (s .holds) x (s .mask) (value e (s .mask) (get (s .state))) x-in (rw (s .size) from) (rw z to) (s .on), s .within))
+      follow-evaluating here has p (s .mask) (s .size) (s .on) C (λ v m b σ. done (effect σ (stores p x m v)) b) (λ v m b τ. done (effect′ τ (stores p x m v)) b)
+      (λ v z s. (holds .writes (s .state) (s .state′) (s .holds) p x (s .mask) v x-in (rw (s .size) from) (rw z to) (s .on), s .within))
       s
   run-follows {C} (a-both {s = t} {t = u} h k) free here s =
-      follow-then i R C (run get set t) (run get set u) (run get′ set′ t) (run get′ set′ u)
+      follow-then i R C (go t) (go u) (go′ t) (go′ u)
       (run-follows h (and-l (no-alone t) (no-alone u) free) here) (run-follows k (and-r (no-alone t) (no-alone u) free) here) s
   run-follows {C} (a-choice {p = p} {n = n} {e = e} {s = t} {t = u} has h k) free here s =
       let there : Reaches i n = has-reaches i all here has in
       let body : Reaches i (joined n C) = reaches-joined n C i there here in
       let free-t : T (no-alone t) = and-l (no-alone t) (no-alone u) free in
       let free-u : T (no-alone u) = and-r (no-alone t) (no-alone u) free in
-      follow-costs i R C p (λ m b σ. branches (value e m (get σ)) (run get set t) (run get set u) m b σ) (λ m b τ. branches (value e m (get′ τ)) (run get′ set′ t) (run get′ set′ u) m b τ)
-      (λ s. let z = follow-length here has (s .mask) (s .size) (s .state) (s .state′) (s .holds) in
-      rw (follow-value here has (s .mask) (s .size) (s .on) (s .state) (s .state′) (s .holds))
-      (follow-branches i R C (value e (s .mask) (get (s .state))) (rw z (has-fits has)) (rw z there) (run get set t) (run get set u) (run get′ set′ t) (run get′ set′ u)
-      (rw z (rests h free-t body)) (rw z (rests k free-u body)) (rw z (run-follows h free-t body)) (rw z (run-follows k free-u body)) s))
+      follow-testing here has p (s .mask) (s .size) (s .on) C (λ v. branches v (go t) (go u)) (λ v. branches v (go′ t) (go′ u))
+      (λ v z s. follow-branches i R C v (rw z (has-fits has)) (rw z there) (go t) (go u) (go′ t) (go′ u)
+      (rw z (rests h free-t body)) (rw z (rests k free-u body)) (rw z (run-follows h free-t body)) (rw z (run-follows k free-u body)) s)
       s
   run-follows {C} (a-cycle {p = p} {n = n} {e = e} {s = t} has h) free here s =
       let there : Reaches i n = has-reaches i all here has in
       let body : Reaches i (joined n C) = reaches-joined n C i there here in
-      follow-loop i R n (joined n C) p there (λ σ. value e (s .mask) (get σ)) (λ τ. value e one-true (get′ τ)) (follow-length here has (s .mask) (s .size))
-      (follow-value here has (s .mask) (s .size) (s .on)) (run get set t) (run get′ set′ t) (rests h free body) (run-follows h free body)
+      follow-loop i R n (joined n C) p there (testing (by get) effect p e (s .mask)) (testing (by get′) effect′ p e one-true)
+      (follow-testing here has p (s .mask) (s .size) (s .on))
+      (λ τ. quiet-testing Γ i get effect (λ σ. R σ τ) (holds .still τ) all has p (s .mask) (s .size))
+      (go t) (go′ t) (rests h free body) (run-follows h free body)
       (s .budget) (s .budget′) C (s .within) (has-fits has) refl s
   run-follows (an-alone h) free here s = absurd free

@@ -9,9 +9,9 @@ use lib.Dec.{T, eqb, ltb, eqb→eq, lt→ltb}
 use lib.ListN.{length}
 use Rattle.meaning.specs.Codes.{ok}
 use Rattle.meaning.specs.Program.{Program}
-use Rattle.meaning.specs.Memory.{Memory, Mask, Declarations, declared, need, fetch, update}
+use Rattle.meaning.specs.Memory.{Memory, Mask, Declarations, declared, need, fetch}
 use Rattle.meaning.specs.Running as R
-use Rattle.meaning.specs.Services.{answer, judged, run}
+use Rattle.meaning.specs.Services.{evaluate, effect, answer, judged, run}
 use Rattle.lane.specs.Narrow.{narrow}
 use Rattle.lane.specs.Lane.{variables, lane-bytes, Has-lane, Holds-lane}
 use Rattle.lane.specs.Values.{lane}
@@ -28,9 +28,10 @@ use Rattle.lane.proofs.Theorem.{variables-are, answered, all-reach}
 -- Under a mask that has lane i off, a program without `scalar` leaves every byte of that lane, also where its budget ends first.
 pub masked-lane-keeps : (i C : ℕ) (P : Program) (Γ : Declarations) → Laid Γ → Sound Γ C P → T (no-alone P) → ((x : ℕ) → x < length Γ → Reaches i (lanes-of Γ x)) → Reaches i C
     → (m : Mask) (budget : ℕ) (M : Memory) → length m ≡ C → lane false m i ≡ false → need Γ ≤ length M
-    → Leaves (Lane-is i Γ (λ x. lane-bytes i (declared Γ x) M)) budget (R.run (fetch Γ) (update Γ) P m budget M)
+    → Leaves (Lane-is i Γ (λ x. lane-bytes i (declared Γ x) M)) budget (R.run (evaluate Γ) (effect Γ) P m budget M)
+unfolding evaluate
 masked-lane-keeps i C P Γ laid sound free all here m budget M size off room =
-    run-quiet Γ i (fetch Γ) (update Γ) (Lane-is i Γ (λ x. lane-bytes i (declared Γ x) M)) (still-lane i Γ laid all (λ x. lane-bytes i (declared Γ x) M)) all sound free here
+    run-quiet Γ i (fetch Γ) (effect Γ) (Lane-is i Γ (λ x. lane-bytes i (declared Γ x) M)) (still-lane i Γ laid all (λ x. lane-bytes i (declared Γ x) M)) all sound free here
     (record { mask = m; budget = budget; bound = budget; state = M; size = size; off = off; within = omega arith; has = record { long = room; each = λ x h. refl } })
 
 -- A run that ended is the same, to the last number and byte, under a larger budget.

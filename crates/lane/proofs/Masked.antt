@@ -8,25 +8,26 @@ use native.Mathlib.Omega.{arith}
 use lib.Dec.{T}
 use lib.ListN.{length}
 use Rattle.meaning.specs.Codes.{if_then_else_}
-use Rattle.meaning.specs.Program.{Program}
+use Rattle.meaning.specs.Program.{Code, Program}
 use Rattle.meaning.specs.Memory.{Value, Mask, truth, Declarations}
-use Rattle.meaning.specs.Running.{value, Ran, spent, done, Run, and-then, costs, some-lane, mask-and, mask-and-not, unless-empty, branches, while-left, loop, run}
+use Rattle.meaning.specs.Running.{value, Event, passes, stores, Ran, stopped, done, Run, and-then, costs, some-lane, mask-and, mask-and-not, unless-empty, branches, while-left, loop, evaluating, testing, run}
 use Rattle.meaning.specs.Typing.{joined}
 use Rattle.lane.specs.Values.{lane}
 use Rattle.lane.proofs.Tests.{and-l, and-r, false-and}
 use Rattle.lane.proofs.Lanes.{Spreads, Reaches, joined-many, reaches-joined, length-mask-and, length-mask-and-not, lane-mask-and, lane-mask-and-not}
-use Rattle.lane.proofs.Sound.{no-alone, Fits, lanes-of, has-fits, has-reaches, mask-spreads, fits-body, joined-body, Sound, a-nothing, a-step, a-put, a-both, a-choice, a-cycle, an-alone}
+use Rattle.lane.proofs.Sound.{no-alone, Fits, lanes-of, Has, has-fits, has-reaches, mask-spreads, fits-body, joined-body, Sound, a-nothing, a-step, a-put, a-both, a-choice, a-cycle, an-alone}
 use Rattle.lane.proofs.Values.{value-length}
 
 -- `I` is true of states whose variables have the declared lengths, and a write with lane i off leaves it true.
-pub record Still {S : Type 0} (Γ : Declarations) (i : ℕ) (get : S → ℕ → Value) (set : S → ℕ → Mask → Value → S) (I : S → Type 0) : Type 0 where
+pub record Still {S : Type 0} (Γ : Declarations) (i : ℕ) (get : S → ℕ → Value) (effect : S → Event → S) (I : S → Type 0) : Type 0 where
   pub sized : (σ : S) → I σ → (x : ℕ) → x < length Γ → length (get σ x) ≡ lanes-of Γ x
-  pub stays : (σ : S) → I σ → (x : ℕ) (m : Mask) (v : Value) → x < length Γ
-      → Spreads (lanes-of Γ x) (length m) → Spreads (lanes-of Γ x) (length v) → lane false m i ≡ false → I (set σ x m v)
+  pub passed : (σ : S) → I σ → (p : ℕ) → I (effect σ (passes p))
+  pub stays : (σ : S) → I σ → (p x : ℕ) (m : Mask) (v : Value) → x < length Γ
+      → Spreads (lanes-of Γ x) (length m) → Spreads (lanes-of Γ x) (length v) → lane false m i ≡ false → I (effect σ (stores p x m v))
 
 -- The state that a run leaves has `I`, and no more than b steps are left.
 abbrev pub Leaves : {S : Type 0} → (S → Type 0) → ℕ → Ran S → Type 0
-Leaves I b (spent p σ) = I σ
+Leaves I b (stopped c p σ b′) = I σ
 Leaves I b (done σ b′) = I σ × (b′ ≤ b)
 
 -- A start with lane i off, in a context of length C: the mask, the budget and what bounds it, and a state with `I`.
@@ -57,7 +58,7 @@ module _ {S : Type 0} (i : ℕ) (I : S → Type 0) where
 
   after-then : (c : ℕ) (r : Ran S) (k : ℕ → S → Ran S) → Leaves I c r → ((b : ℕ) (σ : S) → b ≤ c → I σ → Leaves I c (k b σ)) → Leaves I c (and-then r k)
   unfolding and-then
-  after-then c (spent p σ) k h f = h
+  after-then c (stopped c′ p σ b) k h f = h
   after-then c (done σ b) k h f = f b σ (h .1) (h .0)
 
   pub quiet-then : (C : ℕ) (r q : Run S) → Quiet C r → Quiet C q → Quiet C (λ m b σ. and-then (r m b σ) (q m))
@@ -116,42 +117,65 @@ module _ {S : Type 0} (i : ℕ) (I : S → Type 0) where
   quiet-while-left C (x ∷ []) fits here r h s = quiet-if C (truth x) r (λ m b σ. done σ b) h (stay C) s
   quiet-while-left C (x ∷ y ∷ w) fits here r h s = quiet-first C (x ∷ y ∷ w) fits here (omega arith) r h s
 
+  -- A test gives values of n lanes.
+  abbrev pub Quiet-test : ℕ → ((Value → Run S) → Run S) → Type 0
+  Quiet-test n test = (D : ℕ) (k : Value → Run S) → ((v : Value) → length v ≡ n → Quiet D (k v)) → Quiet D (test k)
+
   -- The body runs in a context of length B, the tests in D: the loop's own at first, and then B.
-  module _ (n B p : ℕ) (here : Reaches i n) (v : S → Value) (sized : (σ : S) → I σ → length (v σ) ≡ n) (r : Run S) (h : Quiet B r) where
-    pub quiet-loop : (k D : ℕ) → Fits D n → joined n D ≡ B → Quiet D (loop k p v r)
+  module _ (n B p : ℕ) (here : Reaches i n) (test : (Value → Run S) → Run S) (quiet : Quiet-test n test) (r : Run S) (h : Quiet B r) where
+    pub quiet-loop : (k D : ℕ) → Fits D n → joined n D ≡ B → Quiet D (loop k p test r)
     unfolding loop
     quiet-loop zero D fits e s = s .has
     quiet-loop (suc k) D fits e s =
-        quiet-costs D p (λ m b σ. while-left (v σ) (λ m b σ. and-then (r m b σ) (loop k p v r m)) m b σ)
-        (λ s. let z = sized (s .state) (s .has) in
-        quiet-while-left D (v (s .state)) (rw z fits) (rw z here) (λ m b σ. and-then (r m b σ) (loop k p v r m))
-        (rw (z, e) (quiet-then B r (loop k p v r) h (quiet-loop k B (fits-body D n B e) (joined-body D n B e)))) s)
+        quiet D (λ v. while-left v (λ m b σ. and-then (r m b σ) (loop k p test r m)))
+        (λ v z s. quiet-while-left D v (rw z fits) (rw z here) (λ m b σ. and-then (r m b σ) (loop k p test r m))
+        (rw (z, e) (quiet-then B r (loop k p test r) h (quiet-loop k B (fits-body D n B e) (joined-body D n B e)))) s)
         s
 
-module _ {S : Type 0} (Γ : Declarations) (i : ℕ) (get : S → ℕ → Value) (set : S → ℕ → Mask → Value → S) (I : S → Type 0) (still : Still Γ i get set I)
+-- An evaluation by how a variable is read.
+abbrev pub by : {S : Type 0} → (S → ℕ → Value) → S → Code → Mask → Value
+by get σ e m = value e m (get σ)
+
+module _ {S : Type 0} (Γ : Declarations) (i : ℕ) (get : S → ℕ → Value) (effect : S → Event → S) (I : S → Type 0) (still : Still Γ i get effect I)
     (all : (x : ℕ) → x < length Γ → Reaches i (lanes-of Γ x)) where
+  abbrev pub go : Program → Run S
+  go = run (by get) effect
+
+  -- A step that evaluates e under the mask n, where e has w lanes; and a test.
+  module _ {C w : ℕ} {e : Code} (has : Has Γ C e w) (p : ℕ) (n : Mask) (z : length n ≡ C) where
+    pub quiet-evaluating : Quiet-test i I w (evaluating (by get) effect p e n)
+    unfolding evaluating
+    quiet-evaluating D k h =
+        quiet-costs i I D p (λ m b σ. k (value e n (get σ)) m b σ)
+        (λ s. h (value e n (get (s .state))) (value-length n z (get (s .state)) (still .sized (s .state) (s .has)) has) s)
+
+    pub quiet-testing : Quiet-test i I w (testing (by get) effect p e n)
+    unfolding testing off-next
+    quiet-testing D k h =
+        quiet-evaluating D (λ v m b σ. k v m b (effect σ (passes p)))
+        (λ v q s. h v q (off-next i I s (s .budget) (effect (s .state) (passes p)) (s .within) (still .passed (s .state) (s .has) p)))
+
   -- A masked-off lane stays.
-  pub run-quiet : {C : ℕ} {P : Program} → Sound Γ C P → T (no-alone P) → Reaches i C → Quiet i I C (run get set P)
+  pub run-quiet : {C : ℕ} {P : Program} → Sound Γ C P → T (no-alone P) → Reaches i C → Quiet i I C (go P)
   unfolding run no-alone
   run-quiet a-nothing free here s = (s .has, s .within)
-  run-quiet {C} (a-step {p = p}) free here s = quiet-costs i I C p (λ m b σ. done σ b) (stay i I C) s
+  run-quiet {C} (a-step {p = p}) free here s =
+      quiet-costs i I C p (λ m b σ. done (effect σ (passes p)) b) (λ s. (still .passed (s .state) (s .has) p, s .within)) s
   run-quiet {C} (a-put {p = p} {x = x} {e = e} x-in has to from) free here s =
-      quiet-costs i I C p (λ m b σ. done (set σ x m (value e m (get σ))) b)
-      (λ s. let z = value-length (s .mask) (s .size) (get (s .state)) (still .sized (s .state) (s .has)) has in
-      (still .stays (s .state) (s .has) x (s .mask) (value e (s .mask) (get (s .state))) x-in (rw (s .size) from) (rw z to) (s .off), s .within))
+      quiet-evaluating has p (s .mask) (s .size) C (λ v m b σ. done (effect σ (stores p x m v)) b)
+      (λ v z s. (still .stays (s .state) (s .has) p x (s .mask) v x-in (rw (s .size) from) (rw z to) (s .off), s .within))
       s
   run-quiet {C} (a-both {s = t} {t = u} h k) free here s =
-      quiet-then i I C (run get set t) (run get set u) (run-quiet h (and-l (no-alone t) (no-alone u) free) here) (run-quiet k (and-r (no-alone t) (no-alone u) free) here) s
+      quiet-then i I C (go t) (go u) (run-quiet h (and-l (no-alone t) (no-alone u) free) here) (run-quiet k (and-r (no-alone t) (no-alone u) free) here) s
   run-quiet {C} (a-choice {p = p} {n = n} {e = e} {s = t} {t = u} has h k) free here s =
       let there : Reaches i n = has-reaches i all here has in
       let body : Reaches i (joined n C) = reaches-joined n C i there here in
-      quiet-costs i I C p (λ m b σ. branches (value e m (get σ)) (run get set t) (run get set u) m b σ)
-      (λ s. let z = value-length (s .mask) (s .size) (get (s .state)) (still .sized (s .state) (s .has)) has in
-      quiet-branches i I C (value e (s .mask) (get (s .state))) (rw z (has-fits has)) (rw z there) (run get set t) (run get set u)
+      quiet-testing has p (s .mask) (s .size) C (λ v. branches v (go t) (go u))
+      (λ v z s. quiet-branches i I C v (rw z (has-fits has)) (rw z there) (go t) (go u)
       (rw z (run-quiet h (and-l (no-alone t) (no-alone u) free) body)) (rw z (run-quiet k (and-r (no-alone t) (no-alone u) free) body)) s)
       s
   run-quiet {C} (a-cycle {p = p} {n = n} {e = e} {s = t} has h) free here s =
       let there : Reaches i n = has-reaches i all here has in
-      quiet-loop i I n (joined n C) p there (λ σ. value e (s .mask) (get σ)) (λ σ w. value-length (s .mask) (s .size) (get σ) (still .sized σ w) has)
-      (run get set t) (run-quiet h free (reaches-joined n C i there here)) (s .budget) C (has-fits has) refl s
+      quiet-loop i I n (joined n C) p there (testing (by get) effect p e (s .mask)) (quiet-testing has p (s .mask) (s .size))
+      (go t) (run-quiet h free (reaches-joined n C i there here)) (s .budget) C (has-fits has) refl s
   run-quiet (an-alone h) free here s = absurd free

@@ -16,6 +16,7 @@ use Rattle.lane.proofs.Tests.{Order, below, same, above, order}
 use Rattle.lane.proofs.Lanes.{Spreads, single, full, Reaches, reaches-one}
 use Rattle.lane.proofs.Sound.{lanes-of}
 use Rattle.lane.proofs.Declared.{Laid, each-length, thin-declared}
+use Rattle.meaning.specs.Services.{effect}
 use Rattle.lane.proofs.Masked.{Still}
 use Rattle.lane.proofs.Follow.{Holds, one-true}
 use Rattle.lane.proofs.Bytes.{end-of, length-fetch, fetch-lane, length-update, update-lane, update-before, update-after}
@@ -57,10 +58,12 @@ pub record Lane-is (i : ℕ) (Γ : Declarations) (want : ℕ → List ℕ) (M : 
   pub each : (x : ℕ) → x < length Γ → lane-bytes i (declared Γ x) M ≡ want x
 
 -- A write with lane i off leaves its bytes.
-pub still-lane : (i : ℕ) (Γ : Declarations) → Laid Γ → ((x : ℕ) → x < length Γ → Reaches i (lanes-of Γ x)) → (want : ℕ → List ℕ) → Still Γ i (fetch Γ) (update Γ) (Lane-is i Γ want)
+pub still-lane : (i : ℕ) (Γ : Declarations) → Laid Γ → ((x : ℕ) → x < length Γ → Reaches i (lanes-of Γ x)) → (want : ℕ → List ℕ) → Still Γ i (fetch Γ) (effect Γ) (Lane-is i Γ want)
+unfolding effect
 still-lane i Γ laid all want = record {
   sized = λ M a x h. length-fetch Γ M x;
-  stays = λ M a x m v h sm sv off. record {
+  passed = λ M a p. a;
+  stays = λ M a p x m v h sm sv off. record {
     long = still-long Γ laid i M (a .long) x h m v sm sv;
     each = λ y y-in. kept M (a .long) x m v h sm sv off y y-in (ℕ-discrete y x) ∙ a .each y y-in;
   };
@@ -83,12 +86,14 @@ module _ (i : ℕ) (Γ Δ : Declarations) (laid : Laid Γ) (laid′ : Laid Δ) (
   all′ : (x : ℕ) → x < length Γ → Reaches i (lanes-of Δ x)
   all′ x h = rw (thin-declared thin x .one-lane) (reaches-one i)
 
-  still-agree : (P : Memory) → Still Γ i (fetch Γ) (update Γ) (λ M. Agree i Γ Δ M P)
+  still-agree : (P : Memory) → Still Γ i (fetch Γ) (effect Γ) (λ M. Agree i Γ Δ M P)
+  unfolding effect
   still-agree P =
       let still = still-lane i Γ laid all (λ x. lane-bytes i (declared Δ x) P) in
       record {
         sized = λ M a x h. still .sized M (a .full) x h;
-        stays = λ M a x m v h sm sv off. record { full = still .stays M (a .full) x m v h sm sv off; short = a .short };
+        passed = λ M a p. a;
+        stays = λ M a p x m v h sm sv off. record { full = still .stays M (a .full) p x m v h sm sv off; short = a .short };
       }
 
   read-agree : (M P : Memory) → Agree i Γ Δ M P → (x : ℕ) → x < length Γ → fetch Δ P x ≡ lane 0 (fetch Γ M x) i ∷ []
@@ -96,12 +101,13 @@ module _ (i : ℕ) (Γ Δ : Declarations) (laid : Laid Γ) (laid′ : Laid Δ) (
       single-lane i (fetch Δ P x) (length-fetch Δ P x ∙ thin-declared thin x .one-lane)
       ∙ ap (λ (n : ℕ). n ∷ []) (fetch-lane Δ P x i (all′ x h) ∙ rw (← (a .full .each x h), thin-declared thin x .same-kind) (sym (fetch-lane Γ M x i (all x h))))
 
-  pub memory-holds : Holds Γ i (fetch Γ) (update Γ) (fetch Δ) (update Δ) (Agree i Γ Δ)
-  unfolding lane seat
+  pub memory-holds : Holds Γ i (fetch Γ) (effect Γ) (fetch Δ) (effect Δ) (Agree i Γ Δ)
+  unfolding lane seat effect
   memory-holds = record {
     still = still-agree;
     reads = read-agree;
-    writes = λ M P a x m v h sm sv on. record {
+    steps = λ M P a p. a;
+    writes = λ M P a p x m v h sm sv on. record {
       full = record { long = still-long Γ laid i M (a .full .long) x h m v sm sv; each = λ y y-in. written M P a x m v h sm sv on y y-in (ℕ-discrete y x) };
       short = still-long Δ laid′ i P (a .short) x (x-in′ x h) one-true (lane 0 v i ∷ []) (single refl) (single refl);
     };

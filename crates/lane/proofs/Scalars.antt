@@ -14,6 +14,7 @@ use Rattle.meaning.specs.declared.Refusal.{Refusal}
 use Rattle.meaning.specs.declared.Refusal.the-variants.{NotAllowed}
 use Rattle.meaning.specs.Codes.{Out, ok, refused, Doing, after, _>>=_, _>>_, give, refuse, check, repeat, option, lookup, if_then_else_, _among_, nesting-limit}
 use Rattle.meaning.specs.Tokens.{Token, end-at, the, words, marks, numbered, reserved, signs}
+use Rattle.meaning.specs.Tree as T
 use Rattle.meaning.specs.Tree.{Name, Expr, Block, Stmt, empty, braces, declare, assign, if-else, while, Stmts, none-yet, _⨾_}
 use Rattle.meaning.specs.Reading.{Reads, After, _⇒_, begins, look, next, choose, expect, as-long, no-room, block, expression, condition, declaration, assignment, opening, another, sequence, statement-over, statement, read}
 use Rattle.meaning.specs.Program.{Program}
@@ -125,7 +126,7 @@ module _ (ts : List Token) (free : (at : ℕ) → T (B.not (eqb ((getD ts at (en
   plain-sequence close m h at = gives-after _ (gives-repeat Plains (length ts) (another ts close m) (plain-another close m h) none-yet plain-none at) (λ l p q. gives-past (expect ts close p) _ (λ u p. accept q))
 
   plain-over : (r : ℕ) (deep : After Stmt) (braced : After Stmts) → ((t : Token) (at : ℕ) → Gives Plain (deep t at)) → ((t : Token) (at : ℕ) → Gives Plains (braced t at)) → (at : ℕ) → Gives Plain (statement-over ts r deep braced at)
-  unfolding statement-over _⇒_
+  unfolding statement-over _⇒_ T.kinds
   plain-over r deep braced h k = gives-choose (
       good (λ t at. accept plain-empty)
       (good (λ t at. gives-after _ (k t at) (λ l p q. accept (plain-braces q)))

@@ -14,10 +14,10 @@ use Rattle.meaning.specs.Tree.{Stmts}
 use Rattle.meaning.specs.Reading.{read}
 use Rattle.meaning.specs.Program.{Program}
 use Rattle.meaning.specs.Typing.{typed-program}
-use Rattle.meaning.specs.Memory.{Memory, Declarations, need, fetch, update}
+use Rattle.meaning.specs.Memory.{Memory, Declarations, need}
 use Rattle.meaning.specs.Running as R
-use Rattle.meaning.specs.Running.{Ran, spent, done}
-use Rattle.meaning.specs.Services.{Answer, answer, pass, judged, ended, executed, run}
+use Rattle.meaning.specs.Running.{Ran, stopped, done}
+use Rattle.meaning.specs.Services.{Answer, answer, pass, judged, evaluate, effect, ended, executed, run}
 use Rattle.lane.specs.Narrow.{narrow}
 use Rattle.lane.specs.Lane.{kinds-in, scalar-free}
 use Rattle.lane.specs.NarrowTree.{narrow-tokens, narrow-stmts, Narrows, Narrowing}
@@ -49,7 +49,7 @@ code-positive BudgetSpent = omega arith
 
 -- The run of a program over bytes, from one true lane.
 abbrev pub ran : Program → Declarations → ℕ → Memory → Ran Memory
-ran P Γ budget M = R.run (fetch Γ) (update Γ) P (true ∷ []) budget M
+ran P Γ budget M = R.run (evaluate Γ) (effect Γ) P (true ∷ []) budget M
 
 -- Code 0: accepted, room enough, and ended with some steps left.
 pub record Ended (P : Program) (Γ : Declarations) (budget : ℕ) (M : Memory) : Type 0 where
@@ -69,7 +69,7 @@ unfolding executed ended answer
 ended-of P Γ budget M e = room (leb (need Γ) (length M)) refl e
   where
     ends : (r : Ran Memory) → ran P Γ budget M ≡ r → need Γ ≤ length M → (ended (need Γ) budget r) .0 .code ≡ 0 → Ended P Γ budget M
-    ends (spent p M′) z l e = absurd (omega arith)
+    ends (stopped c p M′ b) z l e = absurd (omega (arith, code-positive c))
     ends (done M′ left) z l e = record { room = l; end = M′; left = left; is = z }
 
     room : (b : Bool) → leb (need Γ) (length M) ≡ b
@@ -100,7 +100,7 @@ ran-well-as text M budget P Γ e code = ended-of P Γ budget M (code-is text M b
 -- What has ended ends alike under a larger budget, and what is added to the budget is left over.
 pub ended-later : {P : Program} {Γ : Declarations} {budget : ℕ} {M : Memory} (more : ℕ) (w : Ended P Γ budget M) → ran P Γ (budget + more) M ≡ done (w .end) (w .left + more)
 ended-later {P} {Γ} {budget} {M} more w =
-    subst (λ (r : Ran Memory). Richer more r (ran P Γ (budget + more) M)) (w .is) (run-same more (fetch Γ) (update Γ) P (true ∷ []) budget M)
+    subst (λ (r : Ran Memory). Richer more r (ran P Γ (budget + more) M)) (w .is) (run-same more (evaluate Γ) (effect Γ) P (true ∷ []) budget M)
 
 -- And what is answered then.
 pub executed-is : {P : Program} {Γ : Declarations} {budget : ℕ} {M : Memory} (w : Ended P Γ budget M) → executed M budget (ok P Γ) ≡ (answer 0 0 (need Γ) (budget - w .left), w .end)

@@ -26,8 +26,8 @@ pub data Has (Γ : Declarations) (C : ℕ) : Code → ℕ → Type 0 where
   of-constant : {a : ℕ} → Has Γ C (constant a) 1
   of-variable : {x : ℕ} → x < length Γ → Fits C (lanes-of Γ x) → Has Γ C (variable x) (lanes-of Γ x)
   of-mask : Has Γ C the-mask C
-  of-one : {k : Kind} {o : Unary} {e : Code} {n : ℕ} → Has Γ C e n → Has Γ C (one k o e) n
-  of-two : {k : Kind} {o : Binary} {e e′ : Code} {n n′ : ℕ} → Has Γ C e n → Has Γ C e′ n′ → Match n n′ → Has Γ C (two k o e e′) (joined n n′)
+  of-one : {p : ℕ} {k : Kind} {o : Unary} {e : Code} {n : ℕ} → Has Γ C e n → Has Γ C (one p k o e) n
+  of-two : {p : ℕ} {k : Kind} {o : Binary} {e e′ : Code} {n n′ : ℕ} → Has Γ C e n → Has Γ C e′ n′ → Match n n′ → Has Γ C (two p k o e e′) (joined n n′)
 
 -- The program is sound in a context of length C.
 pub data Sound (Γ : Declarations) : ℕ → Program → Type 0 where

@@ -8,9 +8,9 @@ use lib.Dec.{T, eqb, ltb, eqb→eq, ltb→lt}
 use lib.ListN.{length}
 use Rattle.meaning.specs.Codes.{ok}
 use Rattle.meaning.specs.Program.{Program}
-use Rattle.meaning.specs.Memory.{Memory, Declarations, declared, need, fetch, update}
-use Rattle.meaning.specs.Running.{Ran, spent, done}
-use Rattle.meaning.specs.Services.{Answer, answer, judged, executed, run}
+use Rattle.meaning.specs.Memory.{Memory, Declarations, declared, need, fetch}
+use Rattle.meaning.specs.Running.{Ran, stopped, done}
+use Rattle.meaning.specs.Services.{Answer, answer, judged, evaluate, effect, executed, run}
 use Rattle.lane.specs.Narrow.{narrow}
 use Rattle.lane.specs.Lane.{variables-in, variables, seat, lane-bytes, Has-lane, Holds-lane, Follows-lane, One-lane, Same-lane, No-leak}
 use Rattle.lane.specs.Values.{lane}
@@ -39,14 +39,15 @@ record Followed-by (i : ℕ) (P : Program) (Γ Δ : Declarations) (budget : ℕ)
 
 module _ (i : ℕ) (P : Program) (Γ Δ : Declarations) (pair : Paired Γ Δ) (sound : Sound Γ 1 P) (free : T (no-alone P)) (all : (x : ℕ) → x < length Γ → Reaches i (lanes-of Γ x)) where
   follow-program : (budget : ℕ) (M N : Memory) (w : Ended P Γ budget M) → Agree i Γ Δ M N → Followed-by i P Γ Δ budget M N w
+  unfolding evaluate
   follow-program budget M N w a =
       go (ran P Δ budget N) refl
       (subst (λ (r : Ran Memory). Followed (Agree i Γ Δ) r (ran P Δ budget N)) (w .is)
-      (run-follows Γ i all (fetch Γ) (update Γ) (fetch Δ) (update Δ) (Agree i Γ Δ) (memory-holds i Γ Δ (pair .laid) (pair .laid′) (pair .thin) all) sound free (reaches-one i)
+      (run-follows Γ i all (fetch Γ) (effect Γ) (fetch Δ) (effect Δ) (Agree i Γ Δ) (memory-holds i Γ Δ (pair .laid) (pair .laid′) (pair .thin) all) sound free (reaches-one i)
       (record { mask = one-true; budget = budget; budget′ = budget; state = M; state′ = N; size = refl; on = first-lane i; within = omega arith; holds = a })))
     where
       go : (r : Ran Memory) → ran P Δ budget N ≡ r → Followed (Agree i Γ Δ) (done (w .end) (w .left)) r → Followed-by i P Γ Δ budget M N w
-      go (spent p N′) e h = absurd h
+      go (stopped c p N′ b) e h = absurd h
       go (done N′ left) e h = record { ended = record { room = a .short; end = N′; left = left; is = e }; left-over = h .1; agree = h .0 }
 
 -- What is judged, of a text.

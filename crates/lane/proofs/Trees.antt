@@ -14,6 +14,7 @@ use Rattle.meaning.specs.declared.Kind.the-variants.{Int as int, Bool as bool}
 use Rattle.meaning.specs.declared.Refusal.the-variants.{NotAllowed}
 use Rattle.meaning.specs.Codes.{Out, _>>=_, _>>_, give, refuse, repeat, option, lookup, if_then_else_, _among_, nesting-limit}
 use Rattle.meaning.specs.Tokens.{Token, end-at, the, words, marks, numbered, reserved, signs}
+use Rattle.meaning.specs.Tree as M
 use Rattle.meaning.specs.Tree.{neg, inv, not, Binary, or, xor, and, eq, ne, lt, gt, le, ge, add, sub, mul, table, unary-table, levels, Expr, number, boolean, name, current-mask, unary, binary, Block, Stmt, empty, braces, declare, assign, if-else, while, scalar, Stmts, none-yet, _⨾_}
 use Rattle.meaning.specs.Reading.{Reads, After, _⇒_, operator, begins, look, next, choose, expect, as-long, more, binaries, operand, no-room, closed, unaries, expression, parenthesised, block, declaration, assignment, condition, opening, another, sequence, statement-over, statement, read}
 use Rattle.lane.specs.Narrow.{is-block}
@@ -337,7 +338,7 @@ module _ (ts : List Token) where
 
   reading-statement-over : (r : ℕ) (deep deep′ : After Stmt) (braced braced′ : After Stmts) → ((t : Token) → Statements (deep t) (deep′ t)) → ((t : Token) → Reading narrow-stmts (braced t) (braced′ t))
       → Statements (statement-over ts r deep braced) (statement-over thin r deep′ braced′)
-  unfolding statement-over _⇒_ narrow-stmt the words marks numbered reserved signs
+  unfolding statement-over _⇒_ M.kinds narrow-stmt the words marks numbered reserved signs
   reading-statement-over r deep deep′ braced braced′ h k = reading-choose (
       case tt (λ t. reading-give narrow-stmt (empty (t .place)))
       (case tt (λ t. reading-then (braced t) (braced′ t) _ _ (k t) (λ l. reading-give narrow-stmt (braces (t .place) l)))

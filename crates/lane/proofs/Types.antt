@@ -13,10 +13,10 @@ use Rattle.meaning.specs.declared.Kind.the-variants.{Bool as bool}
 use Rattle.meaning.specs.declared.Refusal.the-variants.{AlreadyOpen, LengthNotListed, WrongKind, WrongLength, LengthOneTarget, TooManyDeclarations}
 use Rattle.meaning.specs.Codes.{Out, after, give, option, if_then_else_, _among_, lengths, declaration-limit}
 use Rattle.meaning.specs.Tokens.{equal}
-use Rattle.meaning.specs.Tree.{Name, table, unary-table, Expr, number, boolean, name, current-mask, unary, binary, Block, Stmt, empty, braces, declare, assign, if-else, while, scalar, Stmts, none-yet, _⨾_}
+use Rattle.meaning.specs.Tree.{Name, same-kind, _one-of_, table, unary-table, Expr, number, boolean, name, current-mask, unary, binary, Block, Stmt, empty, braces, declare, assign, if-else, while, scalar, Stmts, none-yet, _⨾_}
 use Rattle.meaning.specs.Program.{Code, variable, one, two, Program, step, put, both, choice, cycle, alone}
 use Rattle.meaning.specs.Memory.{Declared, Declarations, declared, whole, next-multiple, need}
-use Rattle.meaning.specs.Typing.{Typed, same-kind, accepts, gives-kind, match, joined, fits, find, variable-named, typed, typed-condition, storable, with-one, declare-name, good-block, lanes-or, typed-declaration, scope, typed-statement, typed-statements, typed-program}
+use Rattle.meaning.specs.Typing.{Typed, accepts, gives-kind, match, joined, fits, find, variable-named, typed, typed-condition, storable, with-one, declare-name, good-block, lanes-or, typed-declaration, scope, typed-statement, typed-statements, typed-program}
 use Rattle.lane.specs.NarrowTree.{narrow-length, narrow-block, narrow-stmt, narrow-stmts, Each, Thinned}
 use Rattle.lane.proofs.Tests.{or-cases}
 use Rattle.lane.proofs.Lanes.{Spreads, single, full, Match, equal as equals, left, right, Reaches, reaches-one, joined-one, reaches-joined}
@@ -92,11 +92,11 @@ module _ (Γ Δ : Declarations) (thin : Each Thinned Γ Δ) (C : ℕ) where
   typed-both current-mask = accept (record { still = refl; still′ = refl; code = refl; kind = refl; one-lane = refl; has = of-mask })
   typed-both (unary p o e) =
       both-after _ _ (typed-both e)
-      (λ a Γ′ a′ Δ′ q. both-check (same-kind (a .kind) ((unary-table o) .1)) (same-kind (a′ .kind) ((unary-table o) .1)) WrongKind p _ _ Γ′ Δ′ (λ t. rw (q .kind) t)
+      (λ a Γ′ a′ Δ′ q. both-check (a .kind one-of (unary-table o) .1) (a′ .kind one-of (unary-table o) .1) WrongKind p _ _ Γ′ Δ′ (λ t. rw (q .kind) t)
       (λ t. accept (record {
         still = q .still;
         still′ = q .still′;
-        code = λ i. one (q .kind i) o (q .code i);
+        code = λ i. one p (q .kind i) o (q .code i);
         kind = q .kind;
         one-lane = q .one-lane;
         has = of-one (q .has);
@@ -109,7 +109,7 @@ module _ (Γ Δ : Declarations) (thin : Each Thinned Γ Δ) (C : ℕ) where
       (λ u. accept (record {
         still = r .still;
         still′ = r .still′;
-        code = λ i. two (q .kind i) o (q .code i) (r .code i);
+        code = λ i. two p (q .kind i) o (q .code i) (r .code i);
         kind = ap (gives-kind ((table o) .2)) (q .kind);
         one-lane = ap₂ joined (q .one-lane) (r .one-lane);
         has = of-two (q .has) (r .has) (match-of (a .lanes) (b .lanes) u);

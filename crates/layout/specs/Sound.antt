@@ -74,15 +74,15 @@ unfoldable pub code-stack : Code → ℕ
 code-stack (constant n) = 1
 code-stack (variable x) = 1
 code-stack the-mask = 1
-code-stack (one k o a) = code-stack a
-code-stack (two k o a b) = max (code-stack a) (suc (code-stack b))
+code-stack (one p k o a) = code-stack a
+code-stack (two p k o a b) = max (code-stack a) (suc (code-stack b))
 
 pub data Numbers (n : ℕ) : Code → Type 0 where
   of-constant : {c : ℕ} → Numbers n (constant c)
   of-variable : {x : ℕ} → x < n → Numbers n (variable x)
   of-the-mask : Numbers n the-mask
-  of-one : {k : Kind} {o : Unary} {a : Code} → Numbers n a → Numbers n (one k o a)
-  of-two : {k : Kind} {o : Binary} {a b : Code} → Numbers n a → Numbers n b → Numbers n (two k o a b)
+  of-one : {p : ℕ} {k : Kind} {o : Unary} {a : Code} → Numbers n a → Numbers n (one p k o a)
+  of-two : {p : ℕ} {k : Kind} {o : Binary} {a b : Code} → Numbers n a → Numbers n b → Numbers n (two p k o a b)
 
 -- A typed expression that can be gone through.
 pub record Able (n : ℕ) (e : Code) : Type 0 where

@@ -8,7 +8,7 @@ use lib.ListN.{length, getD, take, drop}
 use Rattle.meaning.specs.declared.Kind.{Kind}
 use Rattle.meaning.specs.declared.Kind.the-variants.{Int as int, Bool as bool}
 use Rattle.meaning.specs.Memory.{Declared, Declarations, declared}
-use Rattle.meaning.specs.Services.{kind-number}
+use Rattle.meaning.specs.Tree.{kind-number}
 
 -- Word k of declaration i.
 abbrev pub word-of : List ℕ → ℕ → ℕ → ℕ

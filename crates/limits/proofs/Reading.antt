@@ -13,7 +13,7 @@ use Rattle.meaning.specs.declared.Kind.{Kind}
 use Rattle.meaning.specs.declared.Refusal.the-variants.{NotAllowed, TooDeep}
 use Rattle.meaning.specs.Codes.{Out, ok, after, give, refuse, option, lookup, repeat, if_then_else_, _among_, nesting-limit}
 use Rattle.meaning.specs.Tokens.{Token, end-at, the, numbered, words, marks, reserved, signs}
-use Rattle.meaning.specs.Tree.{Binary, Unary, neg, inv, not as not′, levels, Expr, number, name, unary, binary, Block, Stmt, empty, braces, if-else, while, scalar, Stmts, none-yet, _⨾_}
+use Rattle.meaning.specs.Tree.{kinds, Binary, Unary, neg, inv, not as not′, levels, Expr, number, name, unary, binary, Block, Stmt, empty, braces, if-else, while, scalar, Stmts, none-yet, _⨾_}
 use Rattle.meaning.specs.Reading.{Reads, After, _⇒_, operator, look, next, choose, expect, as-long, more, binaries, operand, no-room, closed, unaries, expression, parenthesised, block, declaration, assignment, condition, opening, another, sequence, statement-over, statement, read, begins}
 use Rattle.layout.specs.Sound.{Spelled, stack, stack-limit, Names, of-number, of-boolean, of-name, of-mask, of-unary, of-binary, Sound, Placed, no-block, at-place, no-value, a-value, Walkable, of-empty, of-braces, of-declare, of-assign, of-if, of-while, of-scalar, All-walkable, of-none, of-more}
 use Rattle.limits.specs.Tokens.{Keeps}
@@ -237,7 +237,7 @@ module _ (text : List ℕ) (ts : List Token) (keeps : Keeps text ts) where
     part = opening-gives deep deeper
 
     statement-over-gives : Gives (Walkable text n) (statement-over ts r deep braced)
-    unfolding statement-over _⇒_
+    unfolding statement-over _⇒_ kinds
     statement-over-gives = record {
       at = λ p. choose-ends (Walkable text n) p _
           (case (λ t s. well {s = suc p} (omega arith, of-empty))

@@ -14,10 +14,10 @@ use Rattle.meaning.specs.declared.Kind.the-variants.{Bool as bool}
 use Rattle.meaning.specs.declared.Refusal.the-variants.{UnknownName, WrongLength, WrongKind, AlreadyOpen, TooManyDeclarations, LengthNotListed, LengthOneTarget}
 use Rattle.meaning.specs.Codes.{after, give, refuse, check, option, if_then_else_, _among_, lengths, declaration-limit}
 use Rattle.meaning.specs.Tokens.{equal}
-use Rattle.meaning.specs.Tree.{Name, table, unary-table, Expr, number, boolean, name, current-mask, unary, binary, Block, Stmt, empty, braces, declare, assign, if-else, while, scalar, Stmts, none-yet, _⨾_}
+use Rattle.meaning.specs.Tree.{Name, same-kind, _one-of_, table, unary-table, Expr, number, boolean, name, current-mask, unary, binary, Block, Stmt, empty, braces, declare, assign, if-else, while, scalar, Stmts, none-yet, _⨾_}
 use Rattle.meaning.specs.Program.{Code, variable, one, Program}
 use Rattle.meaning.specs.Memory.{Declared, Declarations, declared}
-use Rattle.meaning.specs.Typing.{Types, Typed, same-kind, accepts, match, joined, fits, find, variable-named, typed, typed-condition, storable, with-one, declare-name, good-block, lanes-or, typed-declaration, shut, scope, typed-statement, typed-statements, typed-program}
+use Rattle.meaning.specs.Typing.{Types, Typed, accepts, match, joined, fits, find, variable-named, typed, typed-condition, storable, with-one, declare-name, good-block, lanes-or, typed-declaration, shut, scope, typed-statement, typed-statements, typed-program}
 use Rattle.layout.specs.Sound.{stack, Sound, Valued, no-value, a-value, Walkable, of-empty, of-braces, of-declare, of-assign, of-if, of-while, of-scalar, All-walkable, of-none, of-more, code-stack, Numbers, of-constant, of-variable, of-the-mask, of-one, of-two, Able, Runnable, of-nothing, of-step, of-put, of-both, of-choice, of-cycle, of-alone, Laid}
 use Rattle.limits.proofs.Outcomes.{Ends, well, not, followed, weaker, passed}
 use Rattle.limits.proofs.Laying.{Kept, kept-none, laid, kept-one, length-more, closed-alike, alike-length, kept-alike}
@@ -81,7 +81,7 @@ module _ (C : ℕ) (listed : Listed C) where
   typed-ends current-mask Γ k = well (refl, record { numbers = of-the-mask; alike = refl; listed = listed })
   typed-ends (unary p o e) Γ k =
       followed (typed C e Γ) _ (typed-ends e Γ k) (λ a Δ h.
-      passed (same-kind (a .kind) ((unary-table o) .1)) WrongKind p Δ _ (omega arith) (λ _.
+      passed (a .kind one-of (unary-table o) .1) WrongKind p Δ _ (omega arith) (λ _.
       well (h .0, record { numbers = of-one (h .1 .numbers); alike = h .1 .alike; listed = h .1 .listed })))
   typed-ends (binary p o e e′) Γ k =
       followed (typed C e Γ) _ (typed-ends e Γ k) (λ a Δ h.

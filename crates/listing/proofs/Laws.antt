@@ -9,7 +9,8 @@ use lib.ListN.{length, drop, length-append, length-drop}
 use lib.Seq.{sets, sets-eq, drop-drop, drop-at, take-at}
 use borrow.Author.Tests.{le-leb, lt-leb}
 use Rattle.meaning.specs.Memory.{Declared, Declarations, little-endian}
-use Rattle.meaning.specs.Services.{kind-number, sixteen, listed}
+use Rattle.meaning.specs.Tree.{kind-number}
+use Rattle.meaning.specs.Services.{sixteen, listed}
 use Rattle.layout.specs.Table.{word-of, kind-of, entry, entries}
 
 -- The record of a declaration, and those of several.

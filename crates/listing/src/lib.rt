@@ -3,7 +3,8 @@ ghost use mathlib.Core.Path.{_≡_};
 ghost use mathlib.Core.List.{[]};
 ghost use Prim.Native.Nat.{_*_, _≤_};
 ghost use lib.ListN.{length};
-ghost use Rattle.meaning.specs.Services.{kind-number, listed};
+ghost use Rattle.meaning.specs.Tree.{kind-number};
+ghost use Rattle.meaning.specs.Services.{listed};
 ghost use Rattle.layout.specs.Table.{kind-of, entries};
 use records::put_record;
 

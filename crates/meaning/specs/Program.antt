@@ -1,4 +1,4 @@
--- What typing makes of a tree: a name is the number of its declaration, and an operator has the kind of its operands.
+-- What typing makes of a tree: a name is the number of its declaration, and an operator has its place and the kind of its operands.
 use Prim.Native.Nat.{ℕ}
 use Rattle.meaning.specs.declared.Kind.{Kind}
 use Rattle.meaning.specs.Tree.{Unary, Binary}
@@ -8,8 +8,8 @@ pub data Code : Type 0 where
   constant : ℕ → Code
   variable : ℕ → Code
   the-mask : Code
-  one : Kind → Unary → Code → Code
-  two : Kind → Binary → Code → Code → Code
+  one : ℕ → Kind → Unary → Code → Code
+  two : ℕ → Kind → Binary → Code → Code → Code
 
 -- Statements. The number in front is the place of the statement's first token. `;` and a declaration without value are a
 -- `step`; an assignment and a declaration with value `put` a value into the variable of a number.

@@ -7,11 +7,10 @@ use mathlib.Core.Option.{Option, none, some}
 use lib.Dec.{eqb}
 use lib.ListN.{length, getD}
 use Rattle.meaning.specs.declared.Kind.{Kind}
-use Rattle.meaning.specs.declared.Kind.the-variants.{Int as int, Bool as bool}
 use Rattle.meaning.specs.declared.Refusal.the-variants.{NotAllowed, TooDeep}
 use Rattle.meaning.specs.Codes.{Out, ok, Doing, _>>=_, _>>_, give, refuse, check, repeat, option, lookup, if_then_else_, _among_, nesting-limit}
 use Rattle.meaning.specs.Tokens.{Token, end-at, the, words, marks, numbered, reserved, signs}
-use Rattle.meaning.specs.Tree.{neg, inv, not, Binary, table, unary-table, levels, Expr, number, boolean, name, current-mask, unary, binary, Block, Stmt, empty, braces, declare, assign, if-else, while, scalar, Stmts, none-yet, _⨾_}
+use Rattle.meaning.specs.Tree.{kinds, neg, inv, not, Binary, table, unary-table, levels, Expr, number, boolean, name, current-mask, unary, binary, Block, Stmt, empty, braces, declare, assign, if-else, while, scalar, Stmts, none-yet, _⨾_}
 
 -- Reading goes on from a position in the list of tokens.
 abbrev pub Reads : Type 0 → Type 0
@@ -32,7 +31,7 @@ operator k os = lookup (eqb k) (map (λ o. (the ((table o) .0), o)) os)
 
 -- What may begin a statement.
 unfoldable pub begins : List ℕ
-begins = map the (";" ∷ "{" ∷ "int" ∷ "bool" ∷ "name" ∷ "if" ∷ "while" ∷ "scalar" ∷ [])
+begins = map the (";" ∷ "{" ∷ map (λ k. k .0) kinds ++ "name" ∷ "if" ∷ "while" ∷ "scalar" ∷ [])
 
 module _ (ts : List Token) where
   -- The token at a position.
@@ -149,9 +148,8 @@ module _ (ts : List Token) where
   statement-over r deep braced = choose (
       (";" ⇒ λ t. give (empty (t .place)))
       ∷ ("{" ⇒ λ t. do l ← braced t; give (braces (t .place) l))
-      ∷ ("int" ⇒ declaration r int)
-      ∷ ("bool" ⇒ declaration r bool)
-      ∷ ("name" ⇒ assignment r)
+      ∷ map (λ k. k .0 ⇒ declaration r (k .1)) kinds ++
+      ("name" ⇒ assignment r)
       ∷ ("if" ⇒ λ t. do e ← condition r; s ← opening deep; expect "else"; u ← opening deep; give (if-else (t .place) e s u))
       ∷ ("while" ⇒ λ t. do e ← condition r; s ← opening deep; give (while (t .place) e s))
       ∷ ("scalar" ⇒ λ t. do s ← opening deep; give (scalar (t .place) s))
@@ -164,5 +162,5 @@ module _ (ts : List Token) where
 
   -- "A program is a sequence of statements, perhaps empty." "The limit is 32."
   unfoldable pub read : Out ℕ Stmts
-  unfolding end-at the words marks numbered reserved signs table unary-table levels operator _⇒_ look next choose expect as-long more binaries operand no-room closed unaries expression parenthesised block declaration assignment condition opening another sequence statement-over statement begins nesting-limit
+  unfolding end-at the words marks numbered reserved signs kinds table unary-table levels operator _⇒_ look next choose expect as-long more binaries operand no-room closed unaries expression parenthesised block declaration assignment condition opening another sequence statement-over statement begins nesting-limit
   read = sequence "end" (statement nesting-limit) 0

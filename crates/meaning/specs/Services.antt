@@ -4,17 +4,16 @@ use mathlib.Core.Bool.{true}
 use mathlib.Core.List.{List, [], _∷_, _++_}
 use lib.Dec.{leb}
 use lib.ListN.{length, drop}
-use Rattle.meaning.specs.declared.Kind.{Kind}
-use Rattle.meaning.specs.declared.Kind.the-variants.{Int as int, Bool as bool}
-use Rattle.meaning.specs.declared.Refusal.the-variants.{MemoryTooShort, BudgetSpent}
+use Rattle.meaning.specs.declared.Refusal.the-variants.{MemoryTooShort}
 use Rattle.meaning.specs.Codes.{code, Out, ok, refused, if_then_else_}
 use Rattle.meaning.specs.Tokens.{lexed}
+use Rattle.meaning.specs.Tree.{kind-number}
 use Rattle.meaning.specs.Reading.{read}
-use Rattle.meaning.specs.Program.{Program}
+use Rattle.meaning.specs.Program.{Code, Program}
 use Rattle.meaning.specs.Typing.{typed-program}
-use Rattle.meaning.specs.Memory.{Memory, Declarations, little-endian, need, fetch, update}
+use Rattle.meaning.specs.Memory.{Memory, Value, Mask, Declarations, little-endian, need, fetch, update}
 use Rattle.meaning.specs.Running as R
-use Rattle.meaning.specs.Running.{Ran, spent, done}
+use Rattle.meaning.specs.Running.{Ran, stopped, done, Event, passes, stores, value}
 
 -- "Each answers four numbers: code, place (a byte offset in the text), need (bytes of memory), steps."
 pub record Answer : Type 0 where
@@ -48,9 +47,18 @@ unfoldable pub judge : List ℕ → Answer
 unfolding judged verdict answer need
 judge text = verdict (λ Γ. 0) (judged text)
 
+-- An expression's value, over bytes.
+unfoldable pub evaluate : Declarations → Memory → Code → Mask → Value
+evaluate Γ M e m = value e m (fetch Γ M)
+
+-- The memory after a step.
+unfoldable pub effect : Declarations → Memory → Event → Memory
+effect Γ M (passes p) = M
+effect Γ M (stores p x m v) = update Γ M x m v
+
 -- "Code 13: need given, steps equal to the budget, memory as after exactly those steps. Code 0: need given, steps as taken."
 unfoldable pub ended : ℕ → ℕ → Ran Memory → Answer × Memory
-ended n budget (spent p M) = (answer (code BudgetSpent) p n budget, M)
+ended n budget (stopped c p M left) = (answer (code c) p n (budget - left), M)
 ended n budget (done M left) = (answer 0 0 n (budget - left), M)
 
 -- "Code 12: need given, steps 0. In all of these the memory keeps every byte." "The mask starts as one true lane."
@@ -58,25 +66,20 @@ unfoldable pub executed : Memory → ℕ → Out Declarations Program → Answer
 executed M budget (refused c p) = (answer (code c) p 0 0, M)
 executed M budget (ok P Γ) =
     if leb (need Γ) (length M)
-    then (λ _. ended (need Γ) budget (R.run (fetch Γ) (update Γ) P (true ∷ []) budget M))
+    then (λ _. ended (need Γ) budget (R.run (evaluate Γ) (effect Γ) P (true ∷ []) budget M))
     else λ _. (answer (code MemoryTooShort) 0 (need Γ) 0, M)
 
 -- "Run takes a text, a lent byte memory and a budget .., judges the text itself, then executes over that memory."
 unfoldable pub run : List ℕ → Memory → ℕ → Answer × Memory
-unfolding judged executed ended answer need fetch update R.run
+unfolding judged executed ended answer need evaluate effect value fetch update R.run
 run text M budget = executed M budget (judged text)
-
--- Where the variables lie, for the collector: a record of 16 bytes for a declaration, the place of its name, its kind (0 int,
--- 1 bool), length and address.
-unfoldable pub kind-number : Kind → ℕ
-kind-number int = 0
-kind-number bool = 1
 
 -- Four numbers as "32-bit little-endian numbers".
 unfoldable pub sixteen : ℕ → ℕ → ℕ → ℕ → List ℕ
 sixteen a b c d = little-endian 4 a ++ little-endian 4 b ++ little-endian 4 c ++ little-endian 4 d
 
--- A table with the records of some declarations, as many as fit whole; its other bytes stay.
+-- Where the variables lie, for the collector: a table with a record of 16 bytes for a declaration, the place of its name, its kind,
+-- length and address; as many as fit whole. Its other bytes stay.
 unfoldable pub listed : Declarations → List ℕ → List ℕ
 listed [] l = l
 listed (d ∷ Γ) l =

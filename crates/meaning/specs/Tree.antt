@@ -1,9 +1,10 @@
 -- Document 01, "The text": what a program is, with the places that refusals and code 13 need.
 use Prim.Native.Nat.{ℕ}
 use Prim.Native.String.{String}
-use mathlib.Core.Bool.{Bool}
+use mathlib.Core.Bool.{Bool, false, _||_}
 use mathlib.Core.List.{List, [], _∷_}
 use mathlib.Core.Option.{Option, none, some}
+use lib.Dec.{eqb}
 use Rattle.meaning.specs.declared.Kind.{Kind}
 use Rattle.meaning.specs.declared.Kind.the-variants.{Int as int, Bool as bool}
 use Rattle.meaning.specs.Codes.{option}
@@ -11,6 +12,25 @@ use Rattle.meaning.specs.Codes.{option}
 -- The bytes of a name.
 abbrev pub Name : Type 0
 Name = List ℕ
+
+-- "A type is `int` or `bool`": the kinds by their words.
+unfoldable pub kinds : List (String × Kind)
+kinds = ("int", int) ∷ ("bool", bool) ∷ []
+
+-- The number of a kind, in the same order.
+unfoldable pub kind-number : Kind → ℕ
+kind-number int = 0
+kind-number bool = 1
+
+-- "of one kind"
+unfoldable pub same-kind : Kind → Kind → Bool
+same-kind k l = eqb (kind-number k) (kind-number l)
+
+infix 40 _one-of_
+-- Is a kind in the list?
+unfoldable pub _one-of_ : Kind → List Kind → Bool
+_one-of_ k [] = false
+_one-of_ k (l ∷ ks) = same-kind k l || k one-of ks
 
 -- "unary `-` `~` `!`"
 pub data Unary : Type 0 where
@@ -20,34 +40,31 @@ pub data Unary : Type 0 where
 pub data Binary : Type 0 where
   or xor and eq ne lt gt le ge add sub mul : Binary
 
--- What a binary operator takes: "take ints", or "take two of one kind".
-pub data Takes : Type 0 where
-  ints alike : Takes
-
 -- What it gives: "Comparisons give bool, the others their operands' kind."
 pub data Gives : Type 0 where
   a-bool its-kind : Gives
 
--- The binary operators: the sign, what it takes, what it gives.
-unfoldable pub table : Binary → String × Takes × Gives
-table or = ("|", alike, its-kind)
-table xor = ("^", alike, its-kind)
-table and = ("&", alike, its-kind)
-table eq = ("==", alike, a-bool)
-table ne = ("!=", alike, a-bool)
-table lt = ("<", ints, a-bool)
-table gt = (">", ints, a-bool)
-table le = ("<=", ints, a-bool)
-table ge = (">=", ints, a-bool)
-table add = ("+", ints, its-kind)
-table sub = ("-", ints, its-kind)
-table mul = ("*", ints, its-kind)
+-- The binary operators: the sign, the kinds of which it takes two alike, and what it gives. "`+ - *` and `< > <= >=` take ints;
+-- `== != & | ^` take two of one kind".
+unfoldable pub table : Binary → String × List Kind × Gives
+table or = ("|", int ∷ bool ∷ [], its-kind)
+table xor = ("^", int ∷ bool ∷ [], its-kind)
+table and = ("&", int ∷ bool ∷ [], its-kind)
+table eq = ("==", int ∷ bool ∷ [], a-bool)
+table ne = ("!=", int ∷ bool ∷ [], a-bool)
+table lt = ("<", int ∷ [], a-bool)
+table gt = (">", int ∷ [], a-bool)
+table le = ("<=", int ∷ [], a-bool)
+table ge = (">=", int ∷ [], a-bool)
+table add = ("+", int ∷ [], its-kind)
+table sub = ("-", int ∷ [], its-kind)
+table mul = ("*", int ∷ [], its-kind)
 
--- The unary operators: the sign, and the kind it takes and gives. "`-` `~` take int, `!` bool".
-unfoldable pub unary-table : Unary → String × Kind
-unary-table neg = ("-", int)
-unary-table inv = ("~", int)
-unary-table not = ("!", bool)
+-- The unary operators: the sign, and the kinds that it takes and gives. "`-` `~` take int, `!` bool".
+unfoldable pub unary-table : Unary → String × List Kind
+unary-table neg = ("-", int ∷ [])
+unary-table inv = ("~", int ∷ [])
+unary-table not = ("!", bool ∷ [])
 
 -- "Expressions, loosest first: `|`, `^`, `&`, (`==` `!=`), (`<` `>` `<=` `>=`), (`+` `-`), `*`"
 unfoldable pub levels : List (List Binary)

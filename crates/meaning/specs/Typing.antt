@@ -2,7 +2,7 @@
 -- of 001, Figure 8, narrowed as document 01 says.
 use Prim.Native.Nat.{ℕ, suc}
 use mathlib.Core.Bool.{Bool, true, false, _&&_, _||_, not}
-use mathlib.Core.List.{[], _∷_, _++_, map}
+use mathlib.Core.List.{List, [], _∷_, _++_, map}
 use mathlib.Core.Option.{Option, none, some}
 use lib.Dec.{eqb, ltb}
 use lib.ListN.{length, take, drop}
@@ -11,7 +11,7 @@ use Rattle.meaning.specs.declared.Kind.the-variants.{Int as int, Bool as
 use Rattle.meaning.specs.declared.Refusal.the-variants.{UnknownName, AlreadyOpen, LengthNotListed, WrongKind, WrongLength, LengthOneTarget, TooManyDeclarations}
 use Rattle.meaning.specs.Codes.{Out, ok, refused, Doing, after, _>>=_, _>>_, give, refuse, check, option, if_then_else_, _among_, lengths, declaration-limit}
 use Rattle.meaning.specs.Tokens.{equal, starts}
-use Rattle.meaning.specs.Tree.{Name, Takes, ints, alike, Gives, a-bool, its-kind, table, unary-table, Expr, number, boolean, name, current-mask, unary, binary, Block, Stmt, empty, braces, declare, assign, if-else, while, scalar, Stmts, none-yet, _⨾_}
+use Rattle.meaning.specs.Tree.{Name, kind-number, same-kind, _one-of_, Gives, a-bool, its-kind, table, unary-table, Expr, number, boolean, name, current-mask, unary, binary, Block, Stmt, empty, braces, declare, assign, if-else, while, scalar, Stmts, none-yet, _⨾_}
 use Rattle.meaning.specs.Program.{Code, constant, variable, the-mask, one, two, Program, nothing, step, put, both, choice, cycle, alone}
 use Rattle.meaning.specs.Memory.{Declared, Declarations, declared, whole, next-multiple, need, bit, size}
 
@@ -25,17 +25,9 @@ pub record Typed : Type 0 where
   pub kind : Kind
   pub lanes : ℕ
 
--- "of one kind"
-unfoldable pub same-kind : Kind → Kind → Bool
-same-kind int int = true
-same-kind int bool = false
-same-kind bool int = false
-same-kind bool bool = true
-
--- "take ints", or "take two of one kind"
-unfoldable pub accepts : Takes → Kind → Kind → Bool
-accepts ints k l = same-kind k int && same-kind l int
-accepts alike k l = same-kind k l
+-- "take two of one kind", of those that it takes
+unfoldable pub accepts : List Kind → Kind → Kind → Bool
+accepts ks k l = k one-of ks && same-kind k l
 
 -- "Comparisons give bool, the others their operands' kind."
 unfoldable pub gives-kind : Gives → Kind → Kind
@@ -76,14 +68,14 @@ typed C (name p x) = do
 typed C current-mask = give (record { code = the-mask; kind = bool; lanes = C })
 typed C (unary p o e) = do
   a ← typed C e
-  check (same-kind (a .kind) ((unary-table o) .1)) WrongKind p
-  give (record { code = one (a .kind) o (a .code); kind = a .kind; lanes = a .lanes })
+  check (a .kind one-of (unary-table o) .1) WrongKind p
+  give (record { code = one p (a .kind) o (a .code); kind = a .kind; lanes = a .lanes })
 typed C (binary p o e e′) = do
   a ← typed C e
   b ← typed C e′
   check (accepts ((table o) .1) (a .kind) (b .kind)) WrongKind p
   check (match (a .lanes) (b .lanes)) WrongLength p
-  give (record { code = two (a .kind) o (a .code) (b .code); kind = gives-kind ((table o) .2) (a .kind); lanes = joined (a .lanes) (b .lanes) })
+  give (record { code = two p (a .kind) o (a .code) (b .code); kind = gives-kind ((table o) .2) (a .kind); lanes = joined (a .lanes) (b .lanes) })
 
 -- "A condition: its expression, then 8." "A condition is bool."
 unfoldable pub typed-condition : ℕ → ℕ → Expr → Types Typed
@@ -168,5 +160,5 @@ unfoldable mutual
 
 -- "The context length C is 1 at the start."
 unfoldable pub typed-program : Stmts → Out Declarations Program
-unfolding lengths declaration-limit equal starts table unary-table declared whole next-multiple need bit size same-kind accepts gives-kind match joined fits find variable-named typed typed-condition storable with-one declare-name good-block lanes-or typed-declaration shut scope typed-statement
+unfolding lengths declaration-limit equal starts table unary-table declared whole next-multiple need bit size kind-number same-kind _one-of_ accepts gives-kind match joined fits find variable-named typed typed-condition storable with-one declare-name good-block lanes-or typed-declaration shut scope typed-statement
 typed-program l = typed-statements 1 l []

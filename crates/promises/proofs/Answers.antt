@@ -10,14 +10,18 @@ use borrow.Author.Tests.{leb-true, leb-false}
 use Rattle.meaning.specs.declared.Refusal.{Refusal}
 use Rattle.meaning.specs.declared.Refusal.the-variants.{TextTooLong, BadBytes, NotAllowed, TooDeep, UnknownName, AlreadyOpen, LengthNotListed, WrongKind, WrongLength, LengthOneTarget, TooManyDeclarations, MemoryTooShort, BudgetSpent}
 use Rattle.meaning.specs.Codes.{code, Out, ok, refused, if_then_else_, declaration-limit}
+use Rattle.meaning.specs.Tree.{kind-number}
 use Rattle.meaning.specs.Program.{Program}
-use Rattle.meaning.specs.Memory.{Memory, Declarations, little-endian, need, fetch, update}
+use Rattle.meaning.specs.Memory.{Memory, Declarations, little-endian, need}
 use Rattle.meaning.specs.Running as R
-use Rattle.meaning.specs.Running.{Ran, spent, done}
-use Rattle.meaning.specs.Services.{Answer, answer, judged, verdict, judge, ended, executed, run, kind-number, sixteen, listed, table-of, variables}
+use Rattle.meaning.specs.Running.{Ran, stopped, done}
+use Rattle.meaning.specs.Services.{Answer, answer, judged, verdict, judge, evaluate, effect, ended, executed, run, sixteen, listed, table-of, variables}
 use Rattle.layout.specs.Sound.{Laid}
 use Rattle.limits.proofs.Outcomes.{said, early}
 use Rattle.limits.proofs.Accepted.{judged-ends}
+use Rattle.answers.specs.Near.{Within, fine, at-most, Near-program, Stops, near-done, near-spent}
+use Rattle.answers.proofs.Running.{run-stops}
+use Rattle.answers.proofs.Places.{judged-within}
 use Rattle.promises.specs.Answers.{need-limit, Judges, accepts, refuses, Runs, stops, too-short, runs-out, ends, Lists, lists, lists-none}
 
 -- The numbers of the refusals begin at 1.
@@ -69,20 +73,21 @@ module _ (text : List ℕ) where
 
   pub run-answers : (M : Memory) (budget : ℕ) → Runs M budget (run text M budget)
   unfolding run executed ended
-  run-answers M budget = go (judged text) refl
+  run-answers M budget = go (judged text) refl (judged-within text)
     where
-      over : (n : ℕ) → n ≤ length M → n ≤ need-limit → (r : Ran Memory) → Runs M budget (ended n budget r)
-      over n h l (spent p M′) = runs-out p n M′ h l
-      over n h l (done M′ left) = ends n (budget - left) M′ h l (omega arith)
+      over : (n : ℕ) → n ≤ length M → n ≤ need-limit → (r : Ran Memory) → Stops (length text) budget r → Runs M budget (ended n budget r)
+      over n h l (stopped c p M′ left) (near-spent k) = let all : budget - 0 ≡ budget = omega arith in rw all (runs-out p n M′ h l)
+      over n h l (done M′ left) (near-done k) = ends n (budget - left) M′ h l (omega arith)
 
-      room : (P : Program) (Γ : Declarations) → need Γ ≤ need-limit → (b : Bool) → leb (need Γ) (length M) ≡ b
-          → Runs M budget (if b then (λ _. ended (need Γ) budget (R.run (fetch Γ) (update Γ) P (true ∷ []) budget M)) else λ _. (answer 12 0 (need Γ) 0, M))
-      room P Γ l true e = over (need Γ) (leb-true (need Γ) (length M) e) l (R.run (fetch Γ) (update Γ) P (true ∷ []) budget M)
-      room P Γ l false e = too-short (need Γ) (leb-false (need Γ) (length M) e) l
+      room : (P : Program) (Γ : Declarations) → need Γ ≤ need-limit → Near-program (length text) P → (b : Bool) → leb (need Γ) (length M) ≡ b
+          → Runs M budget (if b then (λ _. ended (need Γ) budget (R.run (evaluate Γ) (effect Γ) P (true ∷ []) budget M)) else λ _. (answer 12 0 (need Γ) 0, M))
+      room P Γ l k true e =
+          over (need Γ) (leb-true (need Γ) (length M) e) l (R.run (evaluate Γ) (effect Γ) P (true ∷ []) budget M) (run-stops (length text) (evaluate Γ) (effect Γ) P k (true ∷ []) budget M)
+      room P Γ l k false e = too-short (need Γ) (leb-false (need Γ) (length M) e) l
 
-      go : (o : Out Declarations Program) → judged text ≡ o → Runs M budget (executed M budget o)
-      go (ok P Γ) e = room P Γ (need-bounded e) (leb (need Γ) (length M)) refl
-      go (refused c p) e = stops (code c) p (some-code c) (judge-code c p e)
+      go : (o : Out Declarations Program) → judged text ≡ o → Within (length text) (Near-program (length text)) o → Runs M budget (executed M budget o)
+      go (ok P Γ) e (fine k) = room P Γ (need-bounded e) k (leb (need Γ) (length M)) refl
+      go (refused c p) e (at-most k) = stops (code c) p (some-code c) (judge-code c p e)
 
   pub variables-answers : (table : List ℕ) → Lists table (variables text table)
   unfolding variables verdict table-of

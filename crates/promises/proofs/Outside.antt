@@ -12,8 +12,8 @@ use Rattle.meaning.specs.Codes.{Out, ok, refused, if_then_else_}
 use Rattle.meaning.specs.Program.{Program}
 use Rattle.meaning.specs.Memory.{Memory, Value, Mask, Declarations, declared, need, fetch, update}
 use Rattle.meaning.specs.Running as R
-use Rattle.meaning.specs.Running.{Ran, spent, done}
-use Rattle.meaning.specs.Services.{answer, judged, ended, executed, run, run-call}
+use Rattle.meaning.specs.Running.{Ran, stopped, done}
+use Rattle.meaning.specs.Services.{answer, judged, evaluate, effect, ended, executed, run, run-call}
 use Rattle.lane.specs.Lane.{variables-in}
 use Rattle.lane.proofs.Lanes.{Spreads}
 use Rattle.lane.proofs.Sound.{lanes-of}
@@ -42,24 +42,25 @@ module _ (Γ : Declarations) (laid : Laid Γ) (M : Memory) (room : need Γ ≤ l
         go b c (inl h) = update-before Γ N x m v fits sm sv b c h
         go b c (inr h) = update-after Γ N x m v fits sm sv b c h
 
-  steady : Steady Γ (fetch Γ) (update Γ) (Same-outside Γ M)
-  steady = record { sized = λ N i x h. length-fetch Γ N x; stays = λ N i x m v h sm sv. stored N i x m v h sm sv }
+  steady : Steady Γ (fetch Γ) (effect Γ) (Same-outside Γ M)
+  unfolding effect
+  steady = record { sized = λ N i x h. length-fetch Γ N x; passed = λ N i p. i; stays = λ N i p x m v h sm sv. stored N i x m v h sm sv }
 
 -- The memory that the definition leaves; of a refused text nothing is a variable.
 run-same : (text : List ℕ) (M : Memory) (budget : ℕ) → Same-outside (variables-in (judged text)) M ((run text M budget) .1)
-unfolding run executed ended variables-in
+unfolding run executed evaluate ended variables-in
 run-same text M budget = go (judged text) refl
   where
     over : (Γ : Declarations) (n : ℕ) (r : Ran Memory) → Leaves (Same-outside Γ M) r → Same-outside Γ M ((ended n budget r) .1)
-    over Γ n (spent p N) h = h
+    over Γ n (stopped c p N left) h = h
     over Γ n (done N left) h = h
 
     room : (P : Program) (Γ : Declarations) → judged text ≡ ok P Γ → (b : Bool) → leb (need Γ) (length M) ≡ b
-        → Same-outside Γ M ((if b then (λ _. ended (need Γ) budget (R.run (fetch Γ) (update Γ) P (true ∷ []) budget M)) else λ _. (answer 12 0 (need Γ) 0, M)) .1)
+        → Same-outside Γ M ((if b then (λ _. ended (need Γ) budget (R.run (evaluate Γ) (effect Γ) P (true ∷ []) budget M)) else λ _. (answer 12 0 (need Γ) 0, M)) .1)
     room P Γ e true t =
         let n = judged-narrow text P Γ e in
-        over Γ (need Γ) (R.run (fetch Γ) (update Γ) P (true ∷ []) budget M)
-        (run-keeps Γ (fetch Γ) (update Γ) (Same-outside Γ M) (steady Γ (n .paired .laid) M (leb-true (need Γ) (length M) t)) (n .sound) (true ∷ []) budget M refl (same Γ M))
+        over Γ (need Γ) (R.run (evaluate Γ) (effect Γ) P (true ∷ []) budget M)
+        (run-keeps Γ (fetch Γ) (effect Γ) (Same-outside Γ M) (steady Γ (n .paired .laid) M (leb-true (need Γ) (length M) t)) (n .sound) (true ∷ []) budget M refl (same Γ M))
     room P Γ e false t = same Γ M
 
     go : (o : Out Declarations Program) → judged text ≡ o → Same-outside (variables-in o) M ((executed M budget o) .1)

@@ -15,7 +15,7 @@ use Rattle.meaning.specs.declared.Refusal.{Refusal}
 use Rattle.meaning.specs.declared.Refusal.the-variants.{NotAllowed, TooDeep}
 use Rattle.meaning.specs.Codes.{Out, ok, refused, after, _>>=_, give, repeat, _among_}
 use Rattle.meaning.specs.Tokens.{Token, the, words, marks, numbered, reserved, signs}
-use Rattle.meaning.specs.Tree.{Expr, Stmt, empty, braces, if-else, while, scalar, Stmts, none-yet, _⨾_}
+use Rattle.meaning.specs.Tree.{kinds, Expr, Stmt, empty, braces, if-else, while, scalar, Stmts, none-yet, _⨾_}
 use Rattle.meaning.specs.Reading.{Reads, _⇒_, begins, look, next, choose, expect, as-long, no-room, parenthesised, declaration, assignment, condition, opening, another, sequence, statement-over, statement}
 use Rattle.layout.specs.Words.{unit, flat, headed, kind-tag, flat-stmt, flat-stmts}
 use Rattle.expressions.specs.Contract.{Appends, Read, token-at}
@@ -45,15 +45,15 @@ statement-is ts (suc r) at = refl
 -- Statements, by their first token.
 module _ {ts : List Token} {at k p v : ℕ} (r : ℕ) (t : Seen ts at k p v) where
   pub read-empty : k ≡ 52 → Leaf flat-stmt (statement ts r at) (at + 1) 52 p 0
-  unfolding statement-over choose look next _⇒_ the numbered reserved signs words marks flat-stmt headed
+  unfolding statement-over choose look next _⇒_ kinds the numbered reserved signs words marks flat-stmt headed
   read-empty e = record { what = empty p; is = rw (statement-is, add-one, t .is, e, t .place); words = refl }
 
   pub read-braces : k ≡ the "{" → statement ts r at ≡ after (braced ts r (token-at ts at) (at + 1)) (λ l. give (braces p l))
-  unfolding statement-over choose look next _⇒_ the numbered reserved signs words marks
+  unfolding statement-over choose look next _⇒_ kinds the numbered reserved signs words marks
   read-braces e = rw (statement-is, add-one, t .is, e, t .place)
 
   pub read-declaration : (d : Declares k) → statement ts r at ≡ declaration ts r (d .kind) (token-at ts at) (at + 1)
-  unfolding statement-over choose look next _⇒_ the numbered reserved signs words marks kind-tag
+  unfolding statement-over choose look next _⇒_ kinds the numbered reserved signs words marks kind-tag
   read-declaration d = go (d .kind) (d .is)
     where
       go : (kd : Kind) → k ≡ kind-tag kd → statement ts r at ≡ declaration ts r kd (token-at ts at) (at + 1)
@@ -61,25 +61,25 @@ module _ {ts : List Token} {at k p v : ℕ} (r : ℕ) (t : Seen ts at k p v) whe
       go bool e = rw (statement-is, add-one, t .is, e)
 
   pub read-assignment : k ≡ the "name" → statement ts r at ≡ assignment ts r (token-at ts at) (at + 1)
-  unfolding statement-over choose look next _⇒_ the numbered reserved signs words marks
+  unfolding statement-over choose look next _⇒_ kinds the numbered reserved signs words marks
   read-assignment e = rw (statement-is, add-one, t .is, e)
 
   pub read-if : k ≡ the "if"
       → statement ts r at ≡ after (condition ts r (at + 1)) (λ e. opening ts (inner ts r) >>= λ s. expect ts "else" >>= λ _. opening ts (inner ts r) >>= λ u. give (if-else p e s u))
-  unfolding statement-over choose look next _⇒_ the numbered reserved signs words marks
+  unfolding statement-over choose look next _⇒_ kinds the numbered reserved signs words marks
   read-if e = rw (statement-is, add-one, t .is, e, t .place)
 
   pub read-while : k ≡ the "while" → statement ts r at ≡ after (condition ts r (at + 1)) (λ e. opening ts (inner ts r) >>= λ s. give (while p e s))
-  unfolding statement-over choose look next _⇒_ the numbered reserved signs words marks
+  unfolding statement-over choose look next _⇒_ kinds the numbered reserved signs words marks
   read-while e = rw (statement-is, add-one, t .is, e, t .place)
 
   pub read-scalar : k ≡ the "scalar" → statement ts r at ≡ after (opening ts (inner ts r) (at + 1)) (λ s. give (scalar p s))
-  unfolding statement-over choose look next _⇒_ the numbered reserved signs words marks
+  unfolding statement-over choose look next _⇒_ kinds the numbered reserved signs words marks
   read-scalar e = rw (statement-is, add-one, t .is, e, t .place)
 
   pub read-none : (k ≡ 52 → ⊥) → (k ≡ 53 → ⊥) → (k ≡ 16 → ⊥) → (k ≡ 17 → ⊥) → (k ≡ 2 → ⊥) → (k ≡ 19 → ⊥) → (k ≡ 21 → ⊥) → (k ≡ 22 → ⊥)
       → statement ts r at ≡ refused NotAllowed p
-  unfolding statement-over choose look next _⇒_ the numbered reserved signs words marks
+  unfolding statement-over choose look next _⇒_ kinds the numbered reserved signs words marks
   read-none a b c d e f g h =
       rw (statement-is, t .is, ne-eqb k 52 a, ne-eqb k 53 b, ne-eqb k 16 c, ne-eqb k 17 d, ne-eqb k 2 e, ne-eqb k 19 f, ne-eqb k 21 g, ne-eqb k 22 h, t .place)
 

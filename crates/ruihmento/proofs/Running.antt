@@ -11,16 +11,15 @@ use Rattle.meaning.specs.declared.Refusal.{Refusal}
 use Rattle.meaning.specs.declared.Refusal.the-variants.{MemoryTooShort, BudgetSpent}
 use Rattle.meaning.specs.Codes.{code, ok, text-limit, nesting-limit}
 use Rattle.meaning.specs.Program.{Program}
-use Rattle.meaning.specs.Memory.{Memory, Declarations, need, fetch, update}
-use Rattle.meaning.specs.Running as R
-use Rattle.meaning.specs.Services.{answer, ended, executed, run, run-call}
+use Rattle.meaning.specs.Memory.{Memory, Declarations, need}
+use Rattle.meaning.specs.Services.{answer, evaluate, effect, ended, executed, run, run-call}
 use Rattle.layout.specs.Table.{entries}
 use Rattle.layout.specs.Sound.{stack-limit}
 use Rattle.evaluate.specs.Stack.{waiting}
 use Rattle.evaluate.proofs.Waiting.{waiting-fewer, waiting-limit}
 use Rattle.engine.specs.declared.Ended.{Ended}
 use Rattle.engine.specs.declared.Ended.the-variants.{Done, Spent}
-use Rattle.engine.specs.Ending.{ran}
+use Rattle.engine.specs.Ending.{program-run, ran}
 use Rattle.engine.specs.Runs.{Runs}
 use Rattle.engine.proofs.Budgets.{leaves-less}
 use Rattle.judge.specs.declared.Judged.the-variants.{Accepted, Refused}
@@ -75,22 +74,22 @@ module _ {words table : List ℕ} {m : ℕ} {Γ : Declarations} {P : Program} (p
       rw (lt-leb (need Γ) (length M) short) (record { written-is = rw (w, k, p .needs); after-is = refl })
 
   module _ (enough : m ≤ length M) where
-    executed-is : executed M budget (ok P Γ) ≡ ended (need Γ) budget (R.run (fetch Γ) (update Γ) P (true ∷ []) budget M)
+    executed-is : executed M budget (ok P Γ) ≡ ended (need Γ) budget (program-run Γ P (true ∷ []) budget M)
     unfolding executed
     executed-is = let fits : need Γ ≤ length M = omega (arith, p .needs) in rw (le-leb (need Γ) (length M) fits)
 
-    module _ (r : Ended) (after : Memory) (e : ran r after ≡ R.run (fetch Γ) (update Γ) P (true ∷ []) budget M) where
+    module _ (r : Ended) (after : Memory) (e : ran r after ≡ program-run Γ P (true ∷ []) budget M) where
       ended-is : executed M budget (ok P Γ) ≡ ended m budget (ran r after)
       ended-is = executed-is ∙ rw (e, p .needs)
 
       -- Code 13.
       pub leaves-spent : {place : ℕ} → r ≡ Spent place → (slice : List ℕ) {written : List ℕ} {k : ℕ} → k ≡ code BudgetSpent → written ≡ with-answer k place m budget slice → Leaves (executed M budget (ok P Γ)) slice written after
       unfolding ended answer
-      leaves-spent q slice k w = rw (ended-is, q) (record { written-is = rw (w, k); after-is = refl })
+      leaves-spent q slice k w = let all : budget - 0 ≡ budget = omega arith in rw (ended-is, q, all) (record { written-is = rw (w, k); after-is = refl })
 
       -- No more steps are left than there were.
       pub some-left : {left : ℕ} → r ≡ Done left → left ≤ budget
-      some-left {left} q = leaves-less (fetch Γ) (update Γ) P (true ∷ []) budget M after left (rw q at e)
+      some-left {left} q = leaves-less (evaluate Γ) (effect Γ) P (true ∷ []) budget M after left (rw q at e)
 
       -- Code 0.
       pub leaves-done : {left : ℕ} → r ≡ Done left → (slice : List ℕ) {written : List ℕ} → written ≡ with-answer 0 0 m (budget - left) slice → Leaves (executed M budget (ok P Γ)) slice written after

@@ -6,9 +6,11 @@ use mathlib.Core.List.{[], _∷_}
 use lib.ListN.{replicate}
 use native.Mathlib.Nat.{add-assoc, add-zero, suc-add, zero-add}
 use native.Mathlib.Omega.{arith}
+use Rattle.meaning.specs.declared.Refusal.the-variants.{BudgetSpent}
 use Rattle.meaning.specs.Program.{Code, Program, nothing, step, put, both, choice, cycle, alone}
 use Rattle.meaning.specs.Memory.{Memory, Value, Mask, Declarations, declared, fetch, update, spread}
-use Rattle.meaning.specs.Running.{Ran, Run, spent, done, value, costs, and-then, some-lane, unless-empty, branches, while-left, loop, run}
+use Rattle.meaning.specs.Running.{Ran, Run, stopped, done, value, costs, and-then, some-lane, unless-empty, branches, while-left, loop, evaluating, testing, run}
+use Rattle.meaning.specs.Services.{evaluate, effect}
 use Rattle.rules.specs.Evaluation.{_∩_, _∖_, End, ended, due}
 use Rattle.rules.proofs.Resolved.{_∣_∣_▹_⇒_, R-CONST, R-VAR, R-MASK, R-UNARY, R-BINARY, Costly, step-costs, put-costs, choice-costs, _∣_∣_▹_⇓_after_, R-INACTIVE, R-ACTIVE, R-NOTHING, R-DECL, R-ASSIGN, R-BROADCAST, R-SEQUENCE, R-IF, R-WHILE, R-SCALAR, R-DUE, R-SEQUENCE-DUE, R-IF-DUE, R-LEAVE, R-AGAIN, R-TEST-DUE, R-BODY-DUE}
 use Rattle.rules.proofs.Masks.{runs, skips, while-as-rule, branches-as-rule}
@@ -16,7 +18,7 @@ use Rattle.rules.proofs.Masks.{runs, skips, while-as-rule, branches-as-
 -- What a run answers that stands as r says, with b steps of its budget left.
 unfoldable pub answers : End → ℕ → Ran Memory
 answers (ended M) b = done M b
-answers (due p M) b = spent p M
+answers (due p M) b = stopped BudgetSpent p M 0
 
 -- Where a step is due, none of the budget is left.
 unfoldable pub Left : End → ℕ → Type 0
@@ -47,15 +49,15 @@ module _ (Γ : Declarations) where
 
   -- A program over bytes, and a loop of at most f tests.
   abbrev pub exec : Program → Run Memory
-  exec = run (fetch Γ) (update Γ)
+  exec = run (evaluate Γ) (effect Γ)
 
   abbrev pub turns : ℕ → ℕ → Code → Program → Mask → Run Memory
-  turns f p e s m₀ = loop f p (λ σ. value e m₀ (fetch Γ σ)) (exec s)
+  turns f p e s m₀ = loop f p (testing (evaluate Γ) (effect Γ) p e m₀) (exec s)
 
   -- The clauses of a run.
   module _ (m : Mask) (b : ℕ) (M : Memory) where
     pub run-put : (p x : ℕ) (e : Code) → exec (put p x e) m (suc b) M ≡ done (update Γ M x m (value e m (fetch Γ M))) b
-    unfolding run
+    unfolding run evaluate effect
     run-put p x e = refl
 
     pub run-both : (s t : Program) → exec (both s t) m b M ≡ and-then (exec s m b M) (exec t m)
@@ -64,7 +66,7 @@ module _ (Γ : Declarations) where
 
     pub run-choice : (p : ℕ) (e : Code) (s t : Program) →
         exec (choice p e s t) m (suc b) M ≡ branches (value e m (fetch Γ M)) (exec s) (exec t) m b M
-    unfolding run
+    unfolding run evaluate effect
     run-choice p e s t = refl
 
     pub run-cycle : (p : ℕ) (e : Code) (s : Program) → exec (cycle p e s) m b M ≡ turns b p e s m m b M
@@ -78,7 +80,7 @@ module _ (Γ : Declarations) where
     pub run-turn : (f p : ℕ) (e : Code) (s : Program) (m₀ : Mask) →
         turns (suc f) p e s m₀ m (suc b) M
         ≡ while-left (value e m₀ (fetch Γ M)) (λ m b M. and-then (exec s m b M) (turns f p e s m₀ m)) m b M
-    unfolding loop costs
+    unfolding loop costs evaluating testing evaluate effect
     run-turn f p e s m₀ = refl
 
   -- Of a statement under any mask; under one with an active lane; and of a loop, with tests for its budget.
@@ -117,7 +119,7 @@ module _ (Γ : Declarations) where
     nothings = record { is = λ h b l. rw zero-add }
 
     steps : {p : ℕ} → Runs-active m M (step p) (ended M) 1
-    unfolding run answers
+    unfolding run effect answers
     steps = record { is = λ h b l. rw (suc-add 0 b, zero-add) }
 
     puts : {p x : ℕ} {e : Code} {v : Value} → value e m (fetch Γ M) ≡ v → Runs-active m M (put p x e) (ended (update Γ M x m v)) 1
@@ -191,10 +193,10 @@ module _ (Γ : Declarations) where
     }
 
     tests-due : {p : ℕ} {e : Code} {s : Program} {m₀ : Mask} → Loops p e s m₀ m M (due p M) 0
-    unfolding loop costs answers Left
+    unfolding loop costs evaluating testing answers Left
     tests-due {p} {e} {s} {m₀} = record { is = λ h b l f. rw (zero-add, l, zero-add) (at f) }
       where
-        at : (f : ℕ) → turns f p e s m₀ m 0 M ≡ spent p M
+        at : (f : ℕ) → turns f p e s m₀ m 0 M ≡ stopped BudgetSpent p M 0
         at zero = refl
         at (suc f) = refl
 

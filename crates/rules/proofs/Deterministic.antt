@@ -5,13 +5,12 @@ use mathlib.Core.Path.{_≡_, refl, ap, ap₂, sym, _∙_}
 use mathlib.Core.Bool.{true}
 use mathlib.Core.Option.{Option, some}
 use native.Mathlib.Nat.{add-comm}
-use native.Mathlib.Omega.{arith}
 use Rattle.meaning.specs.declared.Kind.{Kind}
 use Rattle.meaning.specs.Tree.{Expr, Stmt, Stmts}
 use Rattle.meaning.specs.Typing.{joined, gives-kind}
 use Rattle.meaning.specs.Memory.{Memory, Value, Mask}
 use Rattle.meaning.specs.Running.{some-lane}
-use Rattle.rules.specs.Typing.{Names, _∣_⊢_∶⟨_∣_⟩, T-NUMBER, T-BOOLEAN, T-VAR, T-MASK, T-UNARY, T-INTS, T-ALIKE, _∣_⊢_⊣_, T-SKIP, T-SCOPE, T-DECL, T-INIT, T-ASSIGN, T-BROADCAST, T-IF, T-WHILE, T-SCALAR, _∣_⊢*_⊣_, T-NONE, T-SEQUENCE}
+use Rattle.rules.specs.Typing.{Names, _∣_⊢_∶⟨_∣_⟩, T-NUMBER, T-BOOLEAN, T-VAR, T-MASK, T-UNARY, T-BINARY, _∣_⊢_⊣_, T-SKIP, T-SCOPE, T-DECL, T-INIT, T-ASSIGN, T-BROADCAST, T-IF, T-WHILE, T-SCALAR, _∣_⊢*_⊣_, T-NONE, T-SEQUENCE}
 use Rattle.rules.specs.Scopes.{Scope}
 use Rattle.rules.specs.Evaluation.{_∣_∣_⊢_⇒⟨_∣_⟩, _∣_∣_⊢*_↓_after_, End, ended, due}
 use Rattle.rules.proofs.Resolved.{R-ACTIVE}
@@ -28,11 +27,8 @@ one-type T-NUMBER T-NUMBER = (refl, refl)
 one-type T-BOOLEAN T-BOOLEAN = (refl, refl)
 one-type (T-VAR e m) (T-VAR e′ m′) = let same = one-entry e e′ in (ap (λ t. t .0) same, ap (λ t. t .1) same)
 one-type T-MASK T-MASK = (refl, refl)
-one-type (T-UNARY d) (T-UNARY d′) = (refl, one-type d d′ .1)
-one-type (T-INTS t a b m) (T-INTS t′ a′ b′ m′) = (refl, ap₂ joined (one-type a a′ .1) (one-type b b′ .1))
-one-type (T-INTS t a b m) (T-ALIKE t′ a′ b′ m′) = let never : _≡_ {A = ℕ} 0 1 = cc in absurd (omega arith)
-one-type (T-ALIKE t a b m) (T-INTS t′ a′ b′ m′) = let never : _≡_ {A = ℕ} 0 1 = cc in absurd (omega arith)
-one-type (T-ALIKE t a b m) (T-ALIKE t′ a′ b′ m′) =
+one-type (T-UNARY t d) (T-UNARY t′ d′) = one-type d d′
+one-type (T-BINARY t a b m) (T-BINARY t′ a′ b′ m′) =
     (ap (gives-kind _) (one-type a a′ .0), ap₂ joined (one-type a a′ .1) (one-type b b′ .1))
 
 -- Names.

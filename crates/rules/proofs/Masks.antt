@@ -5,7 +5,7 @@ use mathlib.Core.Bool.{Bool, true, false, _&&_}
 use mathlib.Core.List.{List, [], _∷_, zipWith}
 use lib.ListN.{length, replicate}
 use Rattle.meaning.specs.Memory.{Value, Mask, truth, spread}
-use Rattle.meaning.specs.Running.{Ran, Run, done, spent, and-then, lanewise, some-lane, mask-and, mask-and-not, unless-empty, branches, while-left}
+use Rattle.meaning.specs.Running.{Ran, Run, stopped, done, and-then, lanewise, some-lane, mask-and, mask-and-not, unless-empty, branches, while-left}
 use Rattle.rules.specs.Evaluation.{_∩_, _∖_}
 
 -- To spread to one lane changes nothing.
@@ -53,7 +53,7 @@ module _ {S : Type 0} (r : Run S) (m : Mask) (b : ℕ) (σ : S) where
 -- A run that is followed by nothing.
 then-nothing : {S : Type 0} (R : Ran S) (k : ℕ → S → Ran S) → ((b : ℕ) (σ : S) → k b σ ≡ done σ b) → and-then R k ≡ R
 unfolding and-then
-then-nothing (spent p σ) k h = refl
+then-nothing (stopped c p σ b) k h = refl
 then-nothing (done σ b) k h = h b σ
 
 module _ (m : Mask) where

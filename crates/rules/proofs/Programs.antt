@@ -32,8 +32,8 @@ code σ (number n) = constant n
 code σ (boolean b) = constant (bit b)
 code σ (name p x) = variable (number-of σ x)
 code σ current-mask = the-mask
-code σ (unary p o e) = one (kind σ e) o (code σ e)
-code σ (binary p o e e′) = two (kind σ e) o (code σ e) (code σ e′)
+code σ (unary p o e) = one p (kind σ e) o (code σ e)
+code σ (binary p o e e′) = two p (kind σ e) o (code σ e) (code σ e′)
 
 -- The program of a statement, and of a sequence.
 unfoldable mutual

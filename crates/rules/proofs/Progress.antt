@@ -6,9 +6,11 @@ use mathlib.Core.Bool.{Bool, true, false}
 use mathlib.Core.List.{[], _∷_}
 use native.Mathlib.Omega.{arith}
 use lib.ListN.{length}
+use Rattle.meaning.specs.declared.Refusal.the-variants.{BudgetSpent}
 use Rattle.meaning.specs.Program.{Code, Program, nothing, step, put, both, choice, cycle, alone}
 use Rattle.meaning.specs.Memory.{Memory, Value, Mask, Declarations, declared, update}
-use Rattle.meaning.specs.Running.{Ran, Run, spent, done, costs, and-then, some-lane, unless-empty, loop, run}
+use Rattle.meaning.specs.Running.{Ran, Run, stopped, done, costs, and-then, some-lane, unless-empty, loop, evaluating, testing, run}
+use Rattle.meaning.specs.Services.{evaluate, effect}
 use Rattle.meaning.specs.Typing.{joined}
 use Rattle.rules.specs.Lengths.{Match, Target, Fills, whole, broadcast}
 use Rattle.rules.specs.Evaluation.{_∩_, _∖_, End, ended, due}
@@ -20,7 +22,7 @@ use Rattle.rules.proofs.Derived.{has-value, exec, turns, run-both, run-
 -- By the rules J: a run that ends did so in the steps that it took, and one that is spent after its whole budget b.
 pub data ByRules (J : End → ℕ → Type 0) (b : ℕ) : Ran Memory → Type 0 where
   ends : {M : Memory} (n left : ℕ) → J (ended M) n → n + left ≡ b → ByRules J b (done M left)
-  spends : {p : ℕ} {M : Memory} → J (due p M) b → ByRules J b (spent p M)
+  spends : {p : ℕ} {M : Memory} → J (due p M) b → ByRules J b (stopped BudgetSpent p M 0)
 
 -- Other rules; one step more; rules after rules.
 pub to-rules : {J K : End → ℕ → Type 0} {b : ℕ} {R : Ran Memory} → ((r : End) (n : ℕ) → J r n → K r n) → ByRules J b R →
@@ -123,7 +125,7 @@ module _ (Γ : Declarations) where
 
     loop-goes : (k b : ℕ) (m : Mask) (M : Memory) → b ≤ k → Match (length m) n → joined n (length m) ≡ C′ → some-lane m ≡ true →
         Looping k b m M
-    unfolding loop costs Looping
+    unfolding loop costs evaluating testing Looping
     loop-goes zero zero m M o f j a = spends R-TEST-DUE
     loop-goes zero (suc b) m M o f j a = absurd (omega arith)
     loop-goes (suc k) zero m M o f j a = spends R-TEST-DUE
@@ -136,7 +138,7 @@ module _ (Γ : Declarations) where
     nothing-goes = record { by-rules = λ m M b l a. ends 0 b R-NOTHING (omega arith) }
 
     pub step-goes : (p : ℕ) → Goes C (step p)
-    unfolding run
+    unfolding run effect
     step-goes p = record { by-rules = λ m M b l a. at b }
       where
         at : {m : Mask} {M : Memory} (b : ℕ) → ByRules (λ r n. Γ ∣ m ∣ M ▹ step p ↓ r after n) b (exec Γ (step p) m b M)
@@ -145,7 +147,7 @@ module _ (Γ : Declarations) where
 
     pub put-goes : {p x n : ℕ} {e : Code} → Valued C e n → Fills n ((declared Γ x) .lanes) → Target C ((declared Γ x) .lanes) →
         Goes C (put p x e)
-    unfolding run
+    unfolding run evaluate effect
     put-goes {p} {x} {n} {e} v f t = record { by-rules = at }
       where
         at : (m : Mask) (M : Memory) (b : ℕ) → length m ≡ C → some-lane m ≡ true →
@@ -169,7 +171,7 @@ module _ (Γ : Declarations) where
     pub choice-goes : {p n : ℕ} {e : Code} {s t : Program} → Valued C e n → Match C n → Goes (joined n C) s →
         Goes (joined n C) t →
         Goes C (choice p e s t)
-    unfolding run
+    unfolding run evaluate effect
     choice-goes {p} {n} {e} {s} {t} v f g h = record { by-rules = at }
       where
         at : (m : Mask) (M : Memory) (b : ℕ) → length m ≡ C → some-lane m ≡ true →

@@ -77,20 +77,20 @@ module _ {σ : Scope} where
       from m M v R-MASK = E-MASK
 
   pub same-unary : {p : ℕ} {o : Unary} {e : Expr} {c : Code} {k : Kind} → Same-value σ e c k →
-      Same-value σ (unary p o e) (one k o c) k
+      Same-value σ (unary p o e) (one p k o c) k
   unfolding kind code
   same-unary {p} {o} {e} {c} {k} s = record { is-kind = s .is-kind; is-code = rw (s .is-kind, s .is-code); from = from }
     where
-      from : From-value σ (unary p o e) (one k o c) k
+      from : From-value σ (unary p o e) (one p k o c) k
       from m M v (R-UNARY d) = E-UNARY (s .from _ _ _ d)
 
   pub same-binary : {p : ℕ} {o : Binary} {e e′ : Expr} {c c′ : Code} {k : Kind} → Same-value σ e c k → Same-value σ e′ c′ k →
-      Same-value σ (binary p o e e′) (two k o c c′) (gives-kind ((table o) .2) k)
+      Same-value σ (binary p o e e′) (two p k o c c′) (gives-kind ((table o) .2) k)
   unfolding kind code
   same-binary {p} {o} {e} {e′} {c} {c′} {k} s s′ =
       record { is-kind = rw (s .is-kind); is-code = rw (s .is-kind, s .is-code, s′ .is-code); from = from }
     where
-      from : From-value σ (binary p o e e′) (two k o c c′) (gives-kind ((table o) .2) k)
+      from : From-value σ (binary p o e e′) (two p k o c c′) (gives-kind ((table o) .2) k)
       from m M v (R-BINARY d d′ f) = E-BINARY (s .from _ _ _ d) (s′ .from _ _ _ d′) f
 
 -- What is run under a mask with an active lane, and what is run as a branch.

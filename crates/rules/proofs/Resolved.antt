@@ -22,16 +22,16 @@ pub data _∣_∣_▹_⇒_ (Γ : Declarations) (m : Mask) (M : Memory) : Code �
       -----------------------------------------
       Γ ∣ m ∣ M ▹ variable x ⇒ fetch Γ M x
   R-MASK : Γ ∣ m ∣ M ▹ the-mask ⇒ map bit m
-  R-UNARY : {k : Kind} {o : Unary} {e : Code} {v : Value} →
+  R-UNARY : {p : ℕ} {k : Kind} {o : Unary} {e : Code} {v : Value} →
       Γ ∣ m ∣ M ▹ e ⇒ v →
       --------------------------------------------
-      Γ ∣ m ∣ M ▹ one k o e ⇒ map (unary-of k o) v
-  R-BINARY : {k : Kind} {o : Binary} {e e′ : Code} {v v′ : Value} →
+      Γ ∣ m ∣ M ▹ one p k o e ⇒ map (unary-of k o) v
+  R-BINARY : {p : ℕ} {k : Kind} {o : Binary} {e e′ : Code} {v v′ : Value} →
       Γ ∣ m ∣ M ▹ e ⇒ v →
       Γ ∣ m ∣ M ▹ e′ ⇒ v′ →
       Match (length v) (length v′) →
       -----------------------------------------------------------
-      Γ ∣ m ∣ M ▹ two k o e e′ ⇒ lanewise (binary-of k o) v v′
+      Γ ∣ m ∣ M ▹ two p k o e e′ ⇒ lanewise (binary-of k o) v v′
 
 -- "One step each": what begins with a step, and its place. (A `while` does too: `R-TEST-DUE`.)
 pub data Costly : Program → ℕ → Type 0 where

@@ -13,7 +13,7 @@ use Rattle.meaning.specs.Codes.{Out, ok, refused}
 use Rattle.meaning.specs.Tree.{Stmts}
 use Rattle.meaning.specs.Program.{Program}
 use Rattle.meaning.specs.Memory.{Memory, Mask, Declarations, need}
-use Rattle.meaning.specs.Running.{Ran, spent, done, some-lane}
+use Rattle.meaning.specs.Running.{Ran, stopped, done, some-lane}
 use Rattle.meaning.specs.Typing.{typed-statements}
 use Rattle.meaning.specs.Services.{answer, judged, executed, ended as outcome, run}
 use Rattle.rules.specs.Scopes.{start}
@@ -106,7 +106,7 @@ module _ (text : List ℕ) (tree : Stmts) (Γ : Declarations) (p : Placed text t
 
       to : start Γ ∣ true ∷ [] ∣ M ⊢* tree ↓ due place M′ after budget →
           outcome (need Γ) budget (exec Γ (p .program) (true ∷ []) budget M) ≡ (answer 13 place (need Γ) budget, M′)
-      to d = rw (as-derived budget budget 0 (due place M′) d (omega arith) refl)
+      to d = let steps : budget - 0 ≡ budget = omega arith in rw (as-derived budget budget 0 (due place M′) d (omega arith) refl, steps)
 
 -- A run ends with code 0 exactly when the rules derive it: any text, over any memory, with any budget.
 module _ (text : List ℕ) (M : Memory) (budget N n : ℕ) (M′ : Memory) where
@@ -121,7 +121,7 @@ module _ (text : List ℕ) (M : Memory) (budget N n : ℕ) (M′ : Memory) where
   has-room P Γ h = go (leb (need Γ) (length M)) refl
     where
       given : (R : Ran Memory) → outcome (need Γ) budget R ≡ (answer 0 0 N n, M′) → need Γ ≡ N
-      given (spent p M₁) e = ap (λ a. (a .0) .need) e
+      given (stopped c p M₁ left) e = ap (λ a. (a .0) .need) e
       given (done M₁ left) e = ap (λ a. (a .0) .need) e
 
       go : (t : Bool) → leb (need Γ) (length M) ≡ t → (need Γ ≤ length M) × (need Γ ≡ N)

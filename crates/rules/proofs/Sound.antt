@@ -6,11 +6,11 @@ use lib.ListN.{length, length-map}
 use Rattle.meaning.specs.declared.Kind.{Kind}
 use Rattle.meaning.specs.declared.Kind.the-variants.{Bool as bool}
 use Rattle.meaning.specs.declared.Refusal.the-variants.{WrongKind, WrongLength}
-use Rattle.meaning.specs.Tree.{Name, Block, table, unary-table, Expr, number, boolean, name, current-mask, unary, binary, Stmt, empty, braces, declare, assign, if-else, while, scalar, Stmts, none-yet, _⨾_}
+use Rattle.meaning.specs.Tree.{Name, same-kind, _one-of_, Block, table, unary-table, Expr, number, boolean, name, current-mask, unary, binary, Stmt, empty, braces, declare, assign, if-else, while, scalar, Stmts, none-yet, _⨾_}
 use Rattle.meaning.specs.Program.{Program}
 use Rattle.meaning.specs.Memory.{Declarations, declared, bit}
 use Rattle.meaning.specs.Codes.{ok}
-use Rattle.meaning.specs.Typing.{Typed, same-kind, accepts, match, typed, typed-condition, lanes-or, typed-declaration, with-one, scope, typed-statement, typed-statements, joined}
+use Rattle.meaning.specs.Typing.{Typed, accepts, match, typed, typed-condition, lanes-or, typed-declaration, with-one, scope, typed-statement, typed-statements, joined}
 use Rattle.rules.specs.Lengths.{Match}
 use Rattle.rules.proofs.Resolved.{R-CONST, R-VAR, R-MASK, R-UNARY, R-BINARY}
 use Rattle.rules.proofs.Lengths.{matches, length-lanewise, length-fetch}
@@ -38,7 +38,7 @@ values C (name p x) Γ =
 values C current-mask Γ = yes (refl, λ Γ* q m M l. record { lanes = _; derived = R-MASK; long = length-map m bit ∙ l })
 values C (unary p o e) Γ =
     keeping _ (values C e Γ) (λ a h.
-    checked (same-kind (a .kind) ((unary-table o) .1)) WrongKind p Γ _ (λ t.
+    checked (a .kind one-of (unary-table o) .1) WrongKind p Γ _ (λ t.
     yes (
       refl,
       λ Γ* q m M l.

@@ -2,17 +2,17 @@
 use Prim.Native.Nat.{ℕ, _+_}
 use mathlib.Core.Path.{_≡_, refl, ap, sym, _∙_}
 use mathlib.Core.Bool.{true, and-eq-true-iff}
-use mathlib.Core.List.{[]}
+use mathlib.Core.List.{List, []}
 use mathlib.Core.Option.{Option, none, some}
 use native.Mathlib.Nat.{add-assoc}
 use Rattle.meaning.specs.declared.Kind.{Kind}
-use Rattle.meaning.specs.declared.Kind.the-variants.{Int as int, Bool as bool}
+use Rattle.meaning.specs.declared.Kind.the-variants.{Bool as bool}
 use Rattle.meaning.specs.declared.Refusal.the-variants.{WrongKind, WrongLength}
 use Rattle.meaning.specs.Codes.{ok}
-use Rattle.meaning.specs.Tree.{Name, Takes, ints, alike, table, unary-table, Expr, number, boolean, name, current-mask, unary, binary, Block, Stmt, empty, braces, declare, assign, if-else, while, scalar, Stmts, none-yet, _⨾_}
+use Rattle.meaning.specs.Tree.{Name, same-kind, _one-of_, table, unary-table, Expr, number, boolean, name, current-mask, unary, binary, Block, Stmt, empty, braces, declare, assign, if-else, while, scalar, Stmts, none-yet, _⨾_}
 use Rattle.meaning.specs.Program.{Program}
 use Rattle.meaning.specs.Memory.{Declarations}
-use Rattle.meaning.specs.Typing.{Typed, same-kind, accepts, match, typed, typed-condition, lanes-or, typed-declaration, with-one, scope, typed-statement, typed-statements, joined}
+use Rattle.meaning.specs.Typing.{Typed, accepts, match, typed, typed-condition, lanes-or, typed-declaration, with-one, scope, typed-statement, typed-statements, joined}
 use Rattle.rules.specs.Scopes.{Scope, start, beyond, past, past-all, declarations}
 use Rattle.rules.proofs.Acts.{Yields, yes, Keeps, next, keeping, checked, also, yielded}
 use Rattle.rules.proofs.Typed.{same-kinds, names, stores, names-one, one-declared, listed, stated-by-rules, sequence-by-rules}
@@ -21,12 +21,9 @@ use Rattle.rules.proofs.Numbers.{numbers, scope-of, means-found, behind
 use Rattle.rules.proofs.Resolution.{Same-value, Same, Same-all, same-number, same-boolean, same-name, same-mask, same-unary, same-binary, same-skip, same-declaration, same-init, same-assignment, same-braces, same-if, same-while, same-scalar, same-none, same-sequence}
 
 -- Operands have one kind.
-one-kind : (t : Takes) (k l : Kind) → accepts t k l ≡ true → l ≡ k
+one-kind : (ks : List Kind) (k l : Kind) → accepts ks k l ≡ true → l ≡ k
 unfolding accepts
-one-kind ints k l a =
-    let kinds = (and-eq-true-iff (same-kind k int) (same-kind l int)) .0 a in
-    same-kinds l int (kinds .1) ∙ sym (same-kinds k int (kinds .0))
-one-kind alike k l a = sym (same-kinds k l a)
+one-kind ks k l a = sym (same-kinds k l ((and-eq-true-iff (k one-of ks) (same-kind k l)) .0 a .1))
 
 -- An expression.
 abbrev Resolved-value : Expr → Declarations → Typed → Type 0
@@ -46,7 +43,7 @@ value-resolved C (name p x) Γ =
 value-resolved C current-mask Γ = yes (refl, λ Γ* q. same-mask)
 value-resolved C (unary p o e) Γ =
     keeping _ (value-resolved C e Γ) (λ a h.
-    checked (same-kind (a .kind) ((unary-table o) .1)) WrongKind p Γ _ (λ t.
+    checked (a .kind one-of (unary-table o) .1) WrongKind p Γ _ (λ t.
     yes (refl, λ Γ* q. same-unary (h Γ* q))))
 value-resolved C (binary p o e e′) Γ =
     keeping _ (value-resolved C e Γ) (λ a h.

@@ -11,20 +11,20 @@ use Rattle.meaning.specs.declared.Kind.{Kind}
 use Rattle.meaning.specs.declared.Kind.the-variants.{Int as int, Bool as bool}
 use Rattle.meaning.specs.declared.Refusal.the-variants.{UnknownName, WrongKind, WrongLength}
 use Rattle.meaning.specs.Codes.{ok, check, refuse, give, option, _>>=_, _>>_, lengths, declaration-limit}
-use Rattle.meaning.specs.Tree.{Name, Binary, table, unary-table, Expr, number, Block, Stmt, empty, braces, declare, assign, if-else, while, scalar, Stmts, none-yet, _⨾_}
+use Rattle.meaning.specs.Tree.{Name, kind-number, same-kind, _one-of_, Binary, table, unary-table, Expr, number, Block, Stmt, empty, braces, declare, assign, if-else, while, scalar, Stmts, none-yet, _⨾_}
 use Rattle.meaning.specs.Program.{two}
 use Rattle.meaning.specs.Memory.{Declared, Declarations, declared}
-use Rattle.meaning.specs.Typing.{Typed, same-kind, accepts, gives-kind, match, fits, find, variable-named, typed, typed-condition, storable, declare-name, good-block, lanes-or, typed-declaration, with-one, scope, typed-statement, typed-statements, joined}
+use Rattle.meaning.specs.Typing.{Typed, accepts, gives-kind, match, fits, find, variable-named, typed, typed-condition, storable, declare-name, good-block, lanes-or, typed-declaration, with-one, scope, typed-statement, typed-statements, joined}
 use Rattle.rules.specs.Lengths.{Match, Target, Fills, whole, broadcast}
 use Rattle.rules.specs.Scopes.{declarations, declarations-in}
-use Rattle.rules.specs.Typing.{Names, _at_, Listed, no-block, block, _∣_⊢_∶⟨_∣_⟩, T-NUMBER, T-BOOLEAN, T-VAR, T-MASK, T-UNARY, T-INTS, T-ALIKE, _∣_⊢_⊣_, T-SKIP, T-SCOPE, T-DECL, T-INIT, T-ASSIGN, T-BROADCAST, T-IF, T-WHILE, T-SCALAR, _∣_⊢*_⊣_, T-NONE, T-SEQUENCE}
+use Rattle.rules.specs.Typing.{Names, _at_, Listed, no-block, block, _∣_⊢_∶⟨_∣_⟩, T-NUMBER, T-BOOLEAN, T-VAR, T-MASK, T-UNARY, T-BINARY, _∣_⊢_⊣_, T-SKIP, T-SCOPE, T-DECL, T-INIT, T-ASSIGN, T-BROADCAST, T-IF, T-WHILE, T-SCALAR, _∣_⊢*_⊣_, T-NONE, T-SEQUENCE}
 use Rattle.rules.proofs.Acts.{Succeeds, yes, Keeps, next, keeping, also}
 use Rattle.rules.proofs.Lengths.{match-fits, does-match, not-narrow, target-match, does-fill}
 use Rattle.rules.proofs.Names.{opens, opens-with-one, Found, missing, number as found, finds}
 use Rattle.rules.proofs.Typed.{counted, in-scope, Branch, stated-by-rules, sequence-by-rules}
 
 same-as-itself : (k : Kind) → same-kind k k ≡ true
-unfolding same-kind
+unfolding same-kind kind-number
 same-as-itself int = refl
 same-as-itself bool = refl
 
@@ -60,7 +60,7 @@ operates : {n n′ : ℕ} {k l : Kind} {Γ : Declarations} (p : ℕ) (o : Binary
       check (accepts ((table o) .1) (a .kind) (b .kind)) WrongKind p
       check (match (a .lanes) (b .lanes)) WrongLength p
       give (record {
-        code = two (a .kind) o (a .code) (b .code);
+        code = two p (a .kind) o (a .code) (b .code);
         kind = gives-kind ((table o) .2) (a .kind);
         lanes = joined (a .lanes) (b .lanes);
       })) Γ)
@@ -73,25 +73,21 @@ operates {n} {n′} p o a b h h′ t m =
 -- An expression that the rules type.
 type-known : {N : Names} {C n : ℕ} {e : Expr} {k : Kind} → N ∣ C ⊢ e ∶⟨ k ∣ n ⟩ → (Γ : Declarations) → opens Γ ≡ N →
     Succeeds (Keeps Γ (λ a. Of k n (a .kind) (a .lanes))) (typed C e Γ)
-unfolding typed accepts same-kind
+unfolding typed accepts
 type-known T-NUMBER Γ o = yes (refl, record { kinds = refl; lengths = refl })
 type-known T-BOOLEAN Γ o = yes (refl, record { kinds = refl; lengths = refl })
 type-known {C} (T-VAR {p = p} {x = x} {k = k} {n = n} e m) Γ o =
     keeping _ (known C p x Γ k n (rw o e) m) (λ v h.
     yes (refl, record { kinds = h .kinds; lengths = h .lengths }))
 type-known T-MASK Γ o = yes (refl, record { kinds = refl; lengths = refl })
-type-known (T-UNARY {o = u} d) Γ o =
+type-known (T-UNARY {o = u} t d) Γ o =
     keeping _ (type-known d Γ o) (λ a h.
-    let same : same-kind (a .kind) ((unary-table u) .1) ≡ true = rw (h .kinds) (same-as-itself ((unary-table u) .1)) in
-    rw same (yes (refl, record { kinds = h .kinds; lengths = h .lengths })))
-type-known (T-INTS {p = p} {o = u} t d d′ m) Γ o =
-    keeping _ (type-known d Γ o) (λ a h.
-    keeping _ (type-known d′ Γ o) (λ b h′.
-    operates p u a b h h′ (rw t refl) m))
-type-known (T-ALIKE {p = p} {o = u} {k = k} t d d′ m) Γ o =
+    let takes : a .kind one-of (unary-table u) .1 ≡ true = rw (h .kinds) t in
+    rw takes (yes (refl, record { kinds = h .kinds; lengths = h .lengths })))
+type-known (T-BINARY {p = p} {o = u} {k = k} t d d′ m) Γ o =
     keeping _ (type-known d Γ o) (λ a h.
     keeping _ (type-known d′ Γ o) (λ b h′.
-    operates p u a b h h′ (rw t (same-as-itself k)) m))
+    operates p u a b h h′ (rw (t, same-as-itself k) refl) m))
 
 -- A condition.
 condition-known : {N : Names} {C n : ℕ} {e : Expr} → N ∣ C ⊢ e ∶⟨ bool ∣ n ⟩ → (p : ℕ) (Γ : Declarations) → opens Γ ≡ N →

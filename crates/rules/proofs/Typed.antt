@@ -13,19 +13,19 @@ use Rattle.meaning.specs.declared.Kind.{Kind}
 use Rattle.meaning.specs.declared.Kind.the-variants.{Int as int, Bool as bool}
 use Rattle.meaning.specs.declared.Refusal.the-variants.{UnknownName, AlreadyOpen, LengthNotListed, WrongKind, WrongLength, LengthOneTarget, TooManyDeclarations}
 use Rattle.meaning.specs.Codes.{after, check, option, refuse, give, _>>=_, _>>_, _among_, lengths, declaration-limit}
-use Rattle.meaning.specs.Tree.{Name, Binary, Takes, ints, alike, table, unary-table, Expr, number, boolean, name, current-mask, unary, binary, Block, Stmt, empty, braces, declare, assign, if-else, while, scalar, Stmts, none-yet, _⨾_}
+use Rattle.meaning.specs.Tree.{Name, kind-number, same-kind, _one-of_, Binary, table, unary-table, Expr, number, boolean, name, current-mask, unary, binary, Block, Stmt, empty, braces, declare, assign, if-else, while, scalar, Stmts, none-yet, _⨾_}
 use Rattle.meaning.specs.Program.{Program}
 use Rattle.meaning.specs.Memory.{Declared, Declarations, declared}
-use Rattle.meaning.specs.Typing.{Typed, same-kind, accepts, gives-kind, match, fits, find, variable-named, typed, typed-condition, storable, declare-name, good-block, lanes-or, typed-declaration, with-one, shut, scope, typed-statement, typed-statements, joined}
+use Rattle.meaning.specs.Typing.{Typed, accepts, gives-kind, match, fits, find, variable-named, typed, typed-condition, storable, declare-name, good-block, lanes-or, typed-declaration, with-one, shut, scope, typed-statement, typed-statements, joined}
 use Rattle.rules.specs.Lengths.{Match, scalar-type, same-length, Target, Fills, whole, broadcast}
 use Rattle.rules.specs.Scopes.{declarations, declarations-in}
-use Rattle.rules.specs.Typing.{Names, _at_, Listed, no-block, block, _∣_⊢_∶⟨_∣_⟩, T-NUMBER, T-BOOLEAN, T-VAR, T-MASK, T-UNARY, T-INTS, T-ALIKE, _∣_⊢_⊣_, T-SKIP, T-SCOPE, T-DECL, T-INIT, T-ASSIGN, T-BROADCAST, T-IF, T-WHILE, T-SCALAR, _∣_⊢*_⊣_, T-NONE, T-SEQUENCE}
+use Rattle.rules.specs.Typing.{Names, _at_, Listed, no-block, block, _∣_⊢_∶⟨_∣_⟩, T-NUMBER, T-BOOLEAN, T-VAR, T-MASK, T-UNARY, T-BINARY, _∣_⊢_⊣_, T-SKIP, T-SCOPE, T-DECL, T-INIT, T-ASSIGN, T-BROADCAST, T-IF, T-WHILE, T-SCALAR, _∣_⊢*_⊣_, T-NONE, T-SEQUENCE}
 use Rattle.rules.proofs.Acts.{Yields, yes, refuses, Keeps, next, keeping, checked}
 use Rattle.rules.proofs.Lengths.{fits-match, matches, match-joined, target, fills}
 use Rattle.rules.proofs.Names.{opens, opens-with-one, opens-after-scope, Found, missing, number as found, finds}
 
 pub same-kinds : (k l : Kind) → same-kind k l ≡ true → k ≡ l
-unfolding same-kind
+unfolding same-kind kind-number
 same-kinds int int e = refl
 same-kinds int bool e = cc
 same-kinds bool int e = cc
@@ -53,16 +53,14 @@ names C p x Γ = go (find x 0 Γ) refl (finds x 0 Γ)
         checked (fits C ((declared Γ i) .lanes)) WrongLength p Γ _ (λ t.
         yes (refl, record { is = refl; found = f; known = omega arith; named = rw same h; fitting = fits-match C _ t }))
 
--- "take ints", or "take two of one kind"
-pub operator-by-rules : {Γ : Names} {C p n n′ : ℕ} {o : Binary} {e e′ : Expr} {k l : Kind} (t : Takes) → (table o) .1 ≡ t →
-    accepts t k l ≡ true →
+-- "take two of one kind", of those that it takes
+pub operator-by-rules : {Γ : Names} {C p n n′ : ℕ} {o : Binary} {e e′ : Expr} {k l : Kind} → accepts ((table o) .1) k l ≡ true →
     Γ ∣ C ⊢ e ∶⟨ k ∣ n ⟩ → Γ ∣ C ⊢ e′ ∶⟨ l ∣ n′ ⟩ → Match n n′ →
     Γ ∣ C ⊢ binary p o e e′ ∶⟨ gives-kind ((table o) .2) k ∣ joined n n′ ⟩
 unfolding accepts
-operator-by-rules {k} {l} ints is a d d′ m =
-    let kinds = (and-eq-true-iff (same-kind k int) (same-kind l int)) .0 a in
-    rw (same-kinds k int (kinds .0)) (T-INTS is (rw (same-kinds k int (kinds .0)) at d) (rw (same-kinds l int (kinds .1)) at d′) m)
-operator-by-rules {k} {l} alike is a d d′ m = T-ALIKE is d (rw (← same-kinds k l a) at d′) m
+operator-by-rules {o} {k} {l} a d d′ m =
+    let kinds = (and-eq-true-iff (k one-of (table o) .1) (same-kind k l)) .0 a in
+    T-BINARY (kinds .0) d (rw (← same-kinds k l (kinds .1)) at d′) m
 
 -- The kind and length of an expression.
 pub typed-by-rules : (C : ℕ) (e : Expr) (Γ : Declarations) →
@@ -74,15 +72,14 @@ typed-by-rules C (name p x) Γ = keeping _ (names C p x Γ) (λ v h. yes (refl, 
 typed-by-rules C current-mask Γ = yes (refl, T-MASK)
 typed-by-rules C (unary p o e) Γ =
     keeping _ (typed-by-rules C e Γ) (λ a h.
-    checked (same-kind (a .kind) ((unary-table o) .1)) WrongKind p Γ _ (λ t.
-    let kind = same-kinds (a .kind) ((unary-table o) .1) t in
-    yes (refl, rw kind (T-UNARY (rw kind at h)))))
+    checked (a .kind one-of (unary-table o) .1) WrongKind p Γ _ (λ t.
+    yes (refl, T-UNARY t h)))
 typed-by-rules C (binary p o e e′) Γ =
     keeping _ (typed-by-rules C e Γ) (λ a h.
     keeping _ (typed-by-rules C e′ Γ) (λ b h′.
     checked (accepts ((table o) .1) (a .kind) (b .kind)) WrongKind p Γ _ (λ t.
     checked (match (a .lanes) (b .lanes)) WrongLength p Γ _ (λ t′.
-    yes (refl, operator-by-rules ((table o) .1) refl t h h′ (matches (a .lanes) (b .lanes) t′))))))
+    yes (refl, operator-by-rules t h h′ (matches (a .lanes) (b .lanes) t′))))))
 
 -- Every expression matches its context.
 pub matches-context : {Γ : Names} {C n : ℕ} {e : Expr} {k : Kind} → Γ ∣ C ⊢ e ∶⟨ k ∣ n ⟩ → Match C n
@@ -90,9 +87,8 @@ matches-context T-NUMBER = scalar-type refl
 matches-context T-BOOLEAN = scalar-type refl
 matches-context (T-VAR e m) = m
 matches-context T-MASK = same-length refl
-matches-context (T-UNARY d) = matches-context d
-matches-context {C} (T-INTS {n = n} {n′ = n′} t d d′ m) = match-joined C n n′ (matches-context d) (matches-context d′)
-matches-context {C} (T-ALIKE {n = n} {n′ = n′} t d d′ m) = match-joined C n n′ (matches-context d) (matches-context d′)
+matches-context (T-UNARY t d) = matches-context d
+matches-context {C} (T-BINARY {n = n} {n′ = n′} t d d′ m) = match-joined C n n′ (matches-context d) (matches-context d′)
 
 -- "A condition is bool."
 pub conditions : (C p : ℕ) (e : Expr) (Γ : Declarations) →

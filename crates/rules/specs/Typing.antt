@@ -8,7 +8,7 @@ use Rattle.meaning.specs.declared.Kind.{Kind}
 use Rattle.meaning.specs.declared.Kind.the-variants.{Int as int, Bool as bool}
 use Rattle.meaning.specs.Codes.{lookup, _among_, lengths}
 use Rattle.meaning.specs.Tokens.{equal}
-use Rattle.meaning.specs.Tree.{Name, Unary, Binary, ints, alike, table, unary-table, Expr, number, boolean, name, current-mask, unary, binary, Block, Stmt, empty, braces, declare, assign, if-else, while, scalar, Stmts, none-yet, _⨾_}
+use Rattle.meaning.specs.Tree.{Name, _one-of_, Unary, Binary, table, unary-table, Expr, number, boolean, name, current-mask, unary, binary, Block, Stmt, empty, braces, declare, assign, if-else, while, scalar, Stmts, none-yet, _⨾_}
 use Rattle.meaning.specs.Typing.{gives-kind, joined, lanes-or}
 use Rattle.rules.specs.Lengths.{Match, Target, Fills}
 
@@ -41,22 +41,15 @@ pub data _∣_⊢_∶⟨_∣_⟩ (Γ : Names) (C : ℕ) : Expr → Kind → ℕ 
   -- "current_mask is bool of length C."
   T-MASK : Γ ∣ C ⊢ current-mask ∶⟨ bool ∣ C ⟩
   -- "`-` `~` take int, `!` bool"
-  T-UNARY : {p : ℕ} {o : Unary} {e : Expr} {n : ℕ} →
-      Γ ∣ C ⊢ e ∶⟨ (unary-table o) .1 ∣ n ⟩ →
-      -------------------------------------------------
-      Γ ∣ C ⊢ unary p o e ∶⟨ (unary-table o) .1 ∣ n ⟩
-  -- "`+ - *` and `< > <= >=` take ints". "A binary operator needs equal lengths or one of length 1, which is replicated."
-  -- "Comparisons give bool, the others their operands' kind."
-  T-INTS : {p : ℕ} {o : Binary} {e e′ : Expr} {n n′ : ℕ} →
-      (table o) .1 ≡ ints →
-      Γ ∣ C ⊢ e ∶⟨ int ∣ n ⟩ →
-      Γ ∣ C ⊢ e′ ∶⟨ int ∣ n′ ⟩ →
-      Match n n′ →
-      --------------------------------------------------------------------------
-      Γ ∣ C ⊢ binary p o e e′ ∶⟨ gives-kind ((table o) .2) int ∣ joined n n′ ⟩
-  -- "`== != & | ^` take two of one kind"
-  T-ALIKE : {p : ℕ} {o : Binary} {e e′ : Expr} {k : Kind} {n n′ : ℕ} →
-      (table o) .1 ≡ alike →
+  T-UNARY : {p : ℕ} {o : Unary} {e : Expr} {k : Kind} {n : ℕ} →
+      k one-of (unary-table o) .1 ≡ true →
+      Γ ∣ C ⊢ e ∶⟨ k ∣ n ⟩ →
+      -------------------------------
+      Γ ∣ C ⊢ unary p o e ∶⟨ k ∣ n ⟩
+  -- "`+ - *` and `< > <= >=` take ints; `== != & | ^` take two of one kind". "A binary operator needs equal lengths or one of length
+  -- 1, which is replicated." "Comparisons give bool, the others their operands' kind."
+  T-BINARY : {p : ℕ} {o : Binary} {e e′ : Expr} {k : Kind} {n n′ : ℕ} →
+      k one-of (table o) .1 ≡ true →
       Γ ∣ C ⊢ e ∶⟨ k ∣ n ⟩ →
       Γ ∣ C ⊢ e′ ∶⟨ k ∣ n′ ⟩ →
       Match n n′ →

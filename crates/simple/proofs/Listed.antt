@@ -13,7 +13,7 @@ use Rattle.meaning.specs.declared.Kind.the-variants.{Bool as bool}
 use Rattle.meaning.specs.declared.Refusal.{Refusal}
 use Rattle.meaning.specs.declared.Refusal.the-variants.{UnknownName, WrongKind, WrongLength, LengthOneTarget}
 use Rattle.meaning.specs.Codes.{if_then_else_, Out, ok, refused, after, check, option, refuse, give, _>>_, lengths, _among_}
-use Rattle.meaning.specs.Tree.{Name, table as signs, unary-table, Expr, number, boolean, name, current-mask, unary, binary, Block}
+use Rattle.meaning.specs.Tree.{Name, same-kind, _one-of_, table as signs, unary-table, Expr, number, boolean, name, current-mask, unary, binary, Block}
 use Rattle.meaning.specs.Program.{one, two}
 use Rattle.meaning.specs.Memory.{Declared, Declarations, declared}
 use Rattle.meaning.specs.Typing as T
@@ -89,22 +89,22 @@ module _ {C count : ℕ} {text table : List ℕ} (c : Listed C) (r : Rows text t
   good-typed (name p x) = gives-after (Good (entries text table count)) _ (good-name p x) (λ x s g. gives g)
   good-typed current-mask = gives (c, refl)
   good-typed (unary p o e) = gives-after (Good (entries text table count)) _ (good-typed e) (λ a s g.
-      gives-check (Good (entries text table count)) (T.same-kind (a .kind) ((unary-table o) .1)) WrongKind p s
-      (give (record { code = one (a .kind) o (a .code); kind = a .kind; lanes = a .lanes })) (gives g))
+      gives-check (Good (entries text table count)) (a .kind one-of (unary-table o) .1) WrongKind p s
+      (give (record { code = one p (a .kind) o (a .code); kind = a .kind; lanes = a .lanes })) (gives g))
   good-typed (binary p o e e′) = gives-after (Good (entries text table count)) _ (good-typed e) (λ a s g. rw (g .1) (
       gives-after (Good (entries text table count)) _ (good-typed e′) (λ b u h.
-      let t : T.Typed = record { code = two (a .kind) o (a .code) (b .code); kind = T.gives-kind ((signs o) .2) (a .kind); lanes = joined (a .lanes) (b .lanes) } in
+      let t : T.Typed = record { code = two p (a .kind) o (a .code) (b .code); kind = T.gives-kind ((signs o) .2) (a .kind); lanes = joined (a .lanes) (b .lanes) } in
       gives-check (Good (entries text table count)) (T.accepts ((signs o) .1) (a .kind) (b .kind)) WrongKind p u (check (T.match (a .lanes) (b .lanes)) WrongLength p >> give t)
       (gives-check (Good (entries text table count)) (T.match (a .lanes) (b .lanes)) WrongLength p u (give t) (gives (listed-joined (g .0) (h .0), h .1))))))
 
   good-condition : (p : ℕ) (e : Expr) → Gives (Good (entries text table count)) (typed-condition C p e (entries text table count))
   unfolding typed-condition
-  good-condition p e = gives-after (Good (entries text table count)) _ (good-typed e) (λ a s g. gives-check (Good (entries text table count)) (T.same-kind (a .kind) bool) WrongKind p s (give a) (gives g))
+  good-condition p e = gives-after (Good (entries text table count)) _ (good-typed e) (λ a s g. gives-check (Good (entries text table count)) (same-kind (a .kind) bool) WrongKind p s (give a) (gives g))
 
   good-valued : (p : ℕ) (k : Kind) (m : ℕ) (e : Expr) → (eqb m 0 ≡ false → Listed m) → Gives (Good (entries text table count)) (valued C p k m e (entries text table count))
   unfolding valued storable length-or
   good-valued p k m e l = gives-after (Good (entries text table count)) _ (good-typed e) (λ a s g.
-      stored a s g (T.same-kind (a .kind) k) (eqb (a .lanes) 1 || eqb (a .lanes) (length-or m (a .lanes))) (eqb C 1 || not (eqb (length-or m (a .lanes)) 1)))
+      stored a s g (same-kind (a .kind) k) (eqb (a .lanes) 1 || eqb (a .lanes) (length-or m (a .lanes))) (eqb C 1 || not (eqb (length-or m (a .lanes)) 1)))
     where
       own : (n : ℕ) → Listed n → (b : Bool) → eqb m 0 ≡ b → Listed (if b then (λ _. n) else λ _. m)
       own n g true q = g

@@ -13,11 +13,11 @@ use Rattle.meaning.specs.declared.Kind.the-variants.{Bool as bool}
 use Rattle.meaning.specs.declared.Refusal.{Refusal}
 use Rattle.meaning.specs.declared.Refusal.the-variants.{WrongKind, WrongLength, LengthOneTarget, LengthNotListed}
 use Rattle.meaning.specs.Codes.{Out, ok, refused, after, Doing}
-use Rattle.meaning.specs.Tree.{Name, Expr, Block, assign, declare}
+use Rattle.meaning.specs.Tree.{Name, same-kind, Expr, Block, assign, declare}
 use Rattle.meaning.specs.Program.{Code, constant, Program, nothing, step, put}
 use Rattle.meaning.specs.Memory.{Declared, Declarations}
 use Rattle.meaning.specs.Typing as T
-use Rattle.meaning.specs.Typing.{typed, typed-condition, storable, same-kind, variable-named, declare-name, typed-declaration, typed-statement, good-block, lanes-or}
+use Rattle.meaning.specs.Typing.{typed, typed-condition, storable, variable-named, declare-name, typed-declaration, typed-statement, good-block, lanes-or}
 use Rattle.layout.specs.Words.{block-length, block-place}
 use Rattle.layout.specs.Code.{code-words, program-words}
 use Rattle.layout.specs.Table.{entries}

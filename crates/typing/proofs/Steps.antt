@@ -13,9 +13,8 @@ use Rattle.meaning.specs.declared.Kind.the-variants.{Int as int, Bool as bool}
 use Rattle.meaning.specs.declared.Refusal.the-variants.{UnknownName, AlreadyOpen, WrongLength, TooManyDeclarations}
 use Rattle.meaning.specs.Codes.{declaration-limit}
 use Rattle.meaning.specs.Tokens.{equal, the, numbered, reserved, words, signs, marks}
-use Rattle.meaning.specs.Tree.{Name, Unary, Binary}
+use Rattle.meaning.specs.Tree.{Name, kind-number, Unary, Binary}
 use Rattle.meaning.specs.Memory.{Declared, Declarations, declared, whole, next-multiple, bit}
-use Rattle.meaning.specs.Services.{kind-number}
 use Rattle.meaning.specs.Typing.{find, fits, variable-named, declare-name}
 use Rattle.layout.specs.Words.{boolean-tag, unary-tag, binary-tag}
 use Rattle.layout.specs.Table.{word-of, kind-of, entry, entries}

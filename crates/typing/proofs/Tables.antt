@@ -15,7 +15,7 @@ use Rattle.meaning.specs.declared.Kind.{Kind}
 use Rattle.meaning.specs.declared.Kind.the-variants.{Int as int, Bool as bool}
 use Rattle.meaning.specs.Codes.{lengths, declaration-limit}
 use Rattle.meaning.specs.Memory.{Declared, Declarations, declared, whole, size, next-multiple, need}
-use Rattle.meaning.specs.Services.{kind-number}
+use Rattle.meaning.specs.Tree.{kind-number}
 use Rattle.meaning.specs.Typing.{shut, with-one}
 use Rattle.layout.specs.Words.{unit}
 use Rattle.layout.specs.Table.{word-of, kind-of, entry, entries}

@@ -2,26 +2,23 @@
 use Prim.Native.Nat.{ℕ, zero, suc, _≤_, _<_}
 use native.Mathlib.Omega.{arith}
 use mathlib.Core.Path.{_≡_, refl, sym, _∙_}
-use mathlib.Core.Bool.{Bool, true, false, _&&_, _||_, true≢false}
+use mathlib.Core.Bool.{Bool, true, false, _||_, true≢false}
+use mathlib.Core.Bool as B
 use lib.Dec.{eqb}
 use borrow.Author.Tests.{ne-eqb}
 use Rattle.meaning.specs.declared.Kind.{Kind}
 use Rattle.meaning.specs.declared.Kind.the-variants.{Int as int, Bool as bool}
 use Rattle.meaning.specs.Tokens.{the, numbered, reserved, words, signs, marks}
-use Rattle.meaning.specs.Tree.{Unary, neg, inv, not, Takes, ints, alike, Gives, a-bool, its-kind, Binary, or, xor, and, eq, ne, lt, gt, le, ge, add, sub, mul, table, unary-table}
-use Rattle.meaning.specs.Services.{kind-number}
-use Rattle.meaning.specs.Typing.{same-kind, accepts, gives-kind}
+use Rattle.meaning.specs.Tree.{kind-number, same-kind, _one-of_, Unary, neg, inv, not, Gives, a-bool, its-kind, Binary, or, xor, and, eq, ne, lt, gt, le, ge, add, sub, mul, table, unary-table}
+use Rattle.meaning.specs.Typing.{gives-kind}
 use Rattle.layout.specs.Words.{binary-tag, unary-tag, boolean-tag}
 use Rattle.layout.specs.Table.{kind-of}
-use Rattle.typing.specs.Nodes.{Node, a-number, a-boolean, a-name, a-mask, a-unary, a-binary, node-tag, code-tag, arity, ints?, a-bool?}
+use Rattle.typing.specs.Nodes.{Node, a-number, a-boolean, a-name, a-mask, a-unary, a-binary, node-tag, node-first, code-tag, code-place, arity, a-bool?}
 
 -- ---- kinds
 pub same-kind-is : (a b : Kind) → eqb (kind-number a) (kind-number b) ≡ same-kind a b
-unfolding kind-number same-kind
-same-kind-is int int = refl
-same-kind-is int bool = refl
-same-kind-is bool int = refl
-same-kind-is bool bool = refl
+unfolding same-kind
+same-kind-is a b = refl
 
 pub kind-back : (k : Kind) → kind-of (kind-number k) ≡ k
 unfolding kind-number kind-of
@@ -39,8 +36,8 @@ kind-bool (suc n) h = refl
 
 -- ---- operators
 -- What the code tests of a tag.
-abbrev pub takes-ints : ℕ → Bool
-takes-ints t = eqb t 60 || eqb t 61 || eqb t 50 || eqb t 51 || eqb t 62 || eqb t 63 || eqb t 64
+abbrev pub takes-bools : ℕ → Bool
+takes-bools t = eqb t 48 || eqb t 49 || eqb t 65 || eqb t 66 || eqb t 67
 
 abbrev pub compares : ℕ → Bool
 compares t = eqb t 48 || eqb t 49 || eqb t 60 || eqb t 61 || eqb t 50 || eqb t 51
@@ -50,23 +47,24 @@ pub record Tagged (o : Binary) (t : ℕ) : Type 0 where
   pub is : binary-tag o ≡ t
   pub low : 48 ≤ t
   pub high : t < 128
-  pub takes : takes-ints t ≡ ints? ((table o) .1)
+  pub ints : true ≡ (int one-of (table o) .1)
+  pub bools : takes-bools t ≡ (bool one-of (table o) .1)
   pub gives : compares t ≡ a-bool? ((table o) .2)
 
 row : (o : Binary) → (t : ℕ) × Tagged o t
-unfolding binary-tag table the numbered reserved words signs marks ints? a-bool?
-row or = (66, record { is = refl; low = omega arith; high = omega arith; takes = refl; gives = refl })
-row xor = (67, record { is = refl; low = omega arith; high = omega arith; takes = refl; gives = refl })
-row and = (65, record { is = refl; low = omega arith; high = omega arith; takes = refl; gives = refl })
-row eq = (48, record { is = refl; low = omega arith; high = omega arith; takes = refl; gives = refl })
-row ne = (49, record { is = refl; low = omega arith; high = omega arith; takes = refl; gives = refl })
-row lt = (60, record { is = refl; low = omega arith; high = omega arith; takes = refl; gives = refl })
-row gt = (61, record { is = refl; low = omega arith; high = omega arith; takes = refl; gives = refl })
-row le = (50, record { is = refl; low = omega arith; high = omega arith; takes = refl; gives = refl })
-row ge = (51, record { is = refl; low = omega arith; high = omega arith; takes = refl; gives = refl })
-row add = (62, record { is = refl; low = omega arith; high = omega arith; takes = refl; gives = refl })
-row sub = (63, record { is = refl; low = omega arith; high = omega arith; takes = refl; gives = refl })
-row mul = (64, record { is = refl; low = omega arith; high = omega arith; takes = refl; gives = refl })
+unfolding binary-tag table the numbered reserved words signs marks kind-number same-kind _one-of_ a-bool?
+row or = (66, record { is = refl; low = omega arith; high = omega arith; ints = refl; bools = refl; gives = refl })
+row xor = (67, record { is = refl; low = omega arith; high = omega arith; ints = refl; bools = refl; gives = refl })
+row and = (65, record { is = refl; low = omega arith; high = omega arith; ints = refl; bools = refl; gives = refl })
+row eq = (48, record { is = refl; low = omega arith; high = omega arith; ints = refl; bools = refl; gives = refl })
+row ne = (49, record { is = refl; low = omega arith; high = omega arith; ints = refl; bools = refl; gives = refl })
+row lt = (60, record { is = refl; low = omega arith; high = omega arith; ints = refl; bools = refl; gives = refl })
+row gt = (61, record { is = refl; low = omega arith; high = omega arith; ints = refl; bools = refl; gives = refl })
+row le = (50, record { is = refl; low = omega arith; high = omega arith; ints = refl; bools = refl; gives = refl })
+row ge = (51, record { is = refl; low = omega arith; high = omega arith; ints = refl; bools = refl; gives = refl })
+row add = (62, record { is = refl; low = omega arith; high = omega arith; ints = refl; bools = refl; gives = refl })
+row sub = (63, record { is = refl; low = omega arith; high = omega arith; ints = refl; bools = refl; gives = refl })
+row mul = (64, record { is = refl; low = omega arith; high = omega arith; ints = refl; bools = refl; gives = refl })
 
 pub tagged : (o : Binary) (t : ℕ) → binary-tag o ≡ t → Tagged o t
 tagged o t h = let r = row o in rw (sym (r .1 .is) ∙ h) at (r .1)
@@ -78,28 +76,17 @@ unary-low neg = omega arith
 unary-low inv = omega arith
 unary-low not = omega arith
 
-pub unary-bool : (o : Unary) → unary-tag o ≡ 197 → bool ≡ (unary-table o) .1
-unfolding unary-tag unary-table the numbered reserved words signs marks
-unary-bool neg h = absurd (omega arith)
-unary-bool inv h = absurd (omega arith)
-unary-bool not h = refl
+pub unary-ints : (o : Unary) → B.not (eqb (unary-tag o) 197) ≡ (int one-of (unary-table o) .1)
+unfolding unary-tag unary-table the numbered reserved words signs marks kind-number same-kind _one-of_
+unary-ints neg = refl
+unary-ints inv = refl
+unary-ints not = refl
 
-pub unary-int : (o : Unary) → (unary-tag o ≡ 197 → ⊥) → int ≡ (unary-table o) .1
-unfolding unary-tag unary-table the numbered reserved words signs marks
-unary-int neg h = refl
-unary-int inv h = refl
-unary-int not h = absurd (h refl)
-
-module _ (a b : Kind) where
-  pub accepts-ints : (t : Takes) → ints? t ≡ true → (same-kind a int && same-kind b int) ≡ accepts t a b
-  unfolding ints? accepts
-  accepts-ints ints h = refl
-  accepts-ints alike h = absurd (true≢false (sym h))
-
-  pub accepts-alike : (t : Takes) → ints? t ≡ false → same-kind a b ≡ accepts t a b
-  unfolding ints? accepts
-  accepts-alike ints h = absurd (true≢false h)
-  accepts-alike alike h = refl
+pub unary-bools : (o : Unary) → eqb (unary-tag o) 197 ≡ (bool one-of (unary-table o) .1)
+unfolding unary-tag unary-table the numbered reserved words signs marks kind-number same-kind _one-of_
+unary-bools neg = refl
+unary-bools inv = refl
+unary-bools not = refl
 
 module _ (k : Kind) where
   pub gives-bool : (g : Gives) → a-bool? g ≡ true → bool ≡ gives-kind g k
@@ -178,3 +165,22 @@ module _ {tag : ℕ} where
   coded-same a-mask h t = sym h
   coded-same (a-unary p o) h t = sym h
   coded-same (a-binary p o) h t = sym h
+
+  -- An operator's place stands in its second word.
+  pub placed-leaf : (n : Node) → node-tag n ≡ tag → tag < 48 → 0 ≡ code-place n
+  unfolding node-tag code-place
+  placed-leaf (a-number n) h l = refl
+  placed-leaf (a-boolean b) h l = refl
+  placed-leaf (a-name p x) h l = refl
+  placed-leaf a-mask h l = refl
+  placed-leaf (a-unary p o) h l = absurd (omega (arith, unary-low o))
+  placed-leaf (a-binary p o) h l = absurd (omega (arith, (tagged o tag h) .low))
+
+  pub placed-operator : (n : Node) {p : ℕ} → node-tag n ≡ tag → node-first n ≡ p → 48 ≤ tag → p ≡ code-place n
+  unfolding node-first code-place
+  placed-operator n {p} h f l = go (class n) h f
+    where
+      go : {n : Node} → Class n → node-tag n ≡ tag → node-first n ≡ p → p ≡ code-place n
+      go (leaf n s e) h f = absurd (omega arith)
+      go unary h f = sym f
+      go binary h f = sym f

@@ -12,11 +12,10 @@ use Rattle.meaning.specs.declared.Kind.{Kind}
 use Rattle.meaning.specs.declared.Refusal.{Refusal}
 use Rattle.meaning.specs.declared.Refusal.the-variants.{WrongKind, WrongLength}
 use Rattle.meaning.specs.Codes.{nesting-limit, Out, ok, refused, after, _>>_, give, check}
-use Rattle.meaning.specs.Tree.{Name, Unary, Binary, table, unary-table, Expr, number, boolean, name, current-mask, unary, binary}
+use Rattle.meaning.specs.Tree.{Name, kind-number, _one-of_, Unary, Binary, table, unary-table, Expr, number, boolean, name, current-mask, unary, binary}
 use Rattle.meaning.specs.Program as P
 use Rattle.meaning.specs.Program.{constant}
 use Rattle.meaning.specs.Memory.{Declarations}
-use Rattle.meaning.specs.Services.{kind-number}
 use Rattle.meaning.specs.Typing as T
 use Rattle.meaning.specs.Typing.{Types, typed}
 use Rattle.layout.specs.Words.{unit, binary-tag, unary-tag, flat}
@@ -25,7 +24,7 @@ use Rattle.layout.specs.Table.{kind-of, entries}
 use Rattle.layout.specs.Sound.{Spelled, stack, stack-limit, Names, of-number, of-boolean, of-name, of-mask, of-unary, of-binary}
 use Rattle.typing.specs.declared.Typing.{Typing}
 use Rattle.typing.specs.declared.Typing.the-variants.{Typed, Refused}
-use Rattle.typing.specs.Nodes.{Node, a-number, a-boolean, a-name, a-mask, a-unary, a-binary, nodes, node-tag, node-first, node-second, nodes-words, code-tag, arity, Entry, Slot, step, slots, Node-at}
+use Rattle.typing.specs.Nodes.{Node, a-number, a-boolean, a-name, a-mask, a-unary, a-binary, nodes, node-tag, node-first, node-second, nodes-words, code-tag, code-place, arity, Entry, Slot, step, slots, Node-at}
 use Rattle.typing.specs.Answers.{There-is, Expression, entry-out, Steps, typed-out, Ready, Shows}
 use Rattle.typing.proofs.Tags.{kind-back}
 
@@ -93,7 +92,7 @@ abbrev pub way : List Slot → List ℕ → Way
 way l w = record { on = l; words = w }
 
 abbrev pub pushed : Node → Entry → Way → Way
-pushed n x v = way ((x .kind, x .lanes) ∷ drop (arity n) (v .on)) (v .words ++ unit (code-tag n) (x .word) 0)
+pushed n x v = way ((x .kind, x .lanes) ∷ drop (arity n) (v .on)) (v .words ++ unit (code-tag n) (x .word) (code-place n))
 
 abbrev pub entered : T.Typed → Way → Way
 entered a v = way ((a .kind, a .lanes) ∷ v .on) (v .words ++ code-words (a .code))
@@ -114,29 +113,29 @@ module _ {S A B : Type 0} where
 
 -- What `typed` makes of operands that are typed.
 abbrev unary-typed : ℕ → Unary → T.Typed → Types T.Typed
-unary-typed p o a = check (T.same-kind (a .kind) ((unary-table o) .1)) WrongKind p >> give (record { code = P.one (a .kind) o (a .code); kind = a .kind; lanes = a .lanes })
+unary-typed p o a = check (a .kind one-of (unary-table o) .1) WrongKind p >> give (record { code = P.one p (a .kind) o (a .code); kind = a .kind; lanes = a .lanes })
 
 abbrev binary-typed : ℕ → Binary → T.Typed → T.Typed → Types T.Typed
 binary-typed p o a b =
     check (T.accepts ((table o) .1) (a .kind) (b .kind)) WrongKind p
     >> (check (T.match (a .lanes) (b .lanes)) WrongLength p
-    >> give (record { code = P.two (a .kind) o (a .code) (b .code); kind = T.gives-kind ((table o) .2) (a .kind); lanes = T.joined (a .lanes) (b .lanes) }))
+    >> give (record { code = P.two p (a .kind) o (a .code) (b .code); kind = T.gives-kind ((table o) .2) (a .kind); lanes = T.joined (a .lanes) (b .lanes) }))
 
 module _ (C p : ℕ) where
   unary-on : (o : Unary) (l : List Node) (v : Way) (a : T.Typed) (Γ : Declarations) → run C (a-unary p o ∷ l) (entered a v) Γ ≡ after (unary-typed p o a Γ) (λ t Δ. run C l (entered t v) Δ)
-  unfolding run step arity code-tag code-words
-  unary-on o l v a Γ = go (T.same-kind (a .kind) ((unary-table o) .1))
+  unfolding run step arity code-tag code-place code-words
+  unary-on o l v a Γ = go (a .kind one-of (unary-table o) .1)
     where
       x : Entry
       x = record { kind = a .kind; lanes = a .lanes; word = kind-number (a .kind) }
 
       go : (b : Bool) → after ((check b WrongKind p >> give x) Γ) (λ x Δ. run C l (pushed (a-unary p o) x (entered a v)) Δ)
-          ≡ after ((check b WrongKind p >> give (record { code = P.one (a .kind) o (a .code); kind = a .kind; lanes = a .lanes })) Γ) (λ t Δ. run C l (entered t v) Δ)
-      go true = rw (append-assoc (v .words) (code-words (a .code)) (unit (unary-tag o) (kind-number (a .kind)) 0))
+          ≡ after ((check b WrongKind p >> give (record { code = P.one p (a .kind) o (a .code); kind = a .kind; lanes = a .lanes })) Γ) (λ t Δ. run C l (entered t v) Δ)
+      go true = rw (append-assoc (v .words) (code-words (a .code)) (unit (unary-tag o) (kind-number (a .kind)) p))
       go false = refl
 
   binary-on : (o : Binary) (l : List Node) (v : Way) (a b : T.Typed) (Γ : Declarations) → run C (a-binary p o ∷ l) (entered b (entered a v)) Γ ≡ after (binary-typed p o a b Γ) (λ t Δ. run C l (entered t v) Δ)
-  unfolding run step arity code-tag code-words
+  unfolding run step arity code-tag code-place code-words
   binary-on o l v a b Γ = go (T.accepts ((table o) .1) (a .kind) (b .kind)) (T.match (a .lanes) (b .lanes))
     where
       k : Kind
@@ -146,16 +145,16 @@ module _ (C p : ℕ) where
       n = T.joined (a .lanes) (b .lanes)
 
       go : (s t : Bool) → after ((check s WrongKind p >> (check t WrongLength p >> give (record { kind = k; lanes = n; word = kind-number (a .kind) }))) Γ) (λ x Δ. run C l (pushed (a-binary p o) x (entered b (entered a v))) Δ)
-          ≡ after ((check s WrongKind p >> (check t WrongLength p >> give (record { code = P.two (a .kind) o (a .code) (b .code); kind = k; lanes = n }))) Γ) (λ t Δ. run C l (entered t v) Δ)
+          ≡ after ((check s WrongKind p >> (check t WrongLength p >> give (record { code = P.two p (a .kind) o (a .code) (b .code); kind = k; lanes = n }))) Γ) (λ t Δ. run C l (entered t v) Δ)
       go true true =
-          let u = unit (binary-tag o) (kind-number (a .kind)) 0 in
+          let u = unit (binary-tag o) (kind-number (a .kind)) p in
           rw (append-assoc (v .words ++ code-words (a .code)) (code-words (b .code)) u, append-assoc (v .words) (code-words (a .code)) (code-words (b .code) ++ u))
       go true false = refl
       go false t = refl
 
 module _ (C : ℕ) where
   walk : (e : Expr) (l : List Node) (v : Way) (Γ : Declarations) → run C (nodes e ++ l) v Γ ≡ after (typed C e Γ) (λ a Δ. run C l (entered a v) Δ)
-  unfolding run nodes typed step arity code-tag code-words
+  unfolding run nodes typed step arity code-tag code-place code-words
   walk (number n) l v Γ = refl
   walk (boolean b) l v Γ = refl
   walk (name p x) l v Γ = simp after-after
@@ -265,14 +264,14 @@ module _ {text tree : List ℕ} {Γ : Declarations} {C : ℕ} {before code kinds
       words = λ k n w z. absurd (let y : _≡_ {A = ℕ} 0 1 = cc in omega arith);
     }
 
-    pub going-next : {k : Kind} {n w t b : ℕ} → r ≡ Typed k n w → t ≡ code-tag (x .node) → b ≡ h - arity (x .node) → size + i + 3 ≤ length code → h + 1 - arity (x .node) ≤ length kinds → h + 1 - arity (x .node) ≤ length lengths
-        → Going text tree Γ C before (sets code (size + i) (unit t w 0)) (set kinds b (kind-number k)) (set lengths b n) size (i + 3) (b + 1) e
+    pub going-next : {k : Kind} {n w t z b : ℕ} → r ≡ Typed k n w → t ≡ code-tag (x .node) → z ≡ code-place (x .node) → b ≡ h - arity (x .node) → size + i + 3 ≤ length code → h + 1 - arity (x .node) ≤ length kinds → h + 1 - arity (x .node) ≤ length lengths
+        → Going text tree Γ C before (sets code (size + i) (unit t w z)) (set kinds b (kind-number k)) (set lengths b n) size (i + 3) (b + 1) e
     unfolding entry-out
-    going-next {k} {n} {w} {t} {b} q et eb room rk rl = record {
+    going-next {k} {n} {w} {t} {z} {b} q et ez eb room rk rl = record {
       rest = x .others;
       from-here = x .then;
       fits = rw up (x .fits);
-      on = stepped ∙ rw (q, slots-drop kinds lengths (arity (x .node)) h (x .at .operands), ← eb, ← et)
+      on = stepped ∙ rw (q, slots-drop kinds lengths (arity (x .node)) h (x .at .operands), ← eb, ← et, ← ez)
           (rw (slots-push kinds lengths b (kind-number k) n (omega arith) (omega arith), kind-back k, written));
     }
       where
@@ -282,10 +281,10 @@ module _ {text tree : List ℕ} {Γ : Declarations} {C : ℕ} {before code kinds
         three : size + (i + 3) ≡ size + i + 3
         three = omega arith
 
-        written : take (size + (i + 3)) (sets code (size + i) (unit t w 0)) ≡ take (size + i) code ++ unit t w 0
-        written = rw (three, sets-eq (unit t w 0) code (size + i) room)
-            (take-at (take (size + i) code ++ unit t w 0) (drop (size + i + 3) code) (size + i + 3)
-            (length-append (take (size + i) code) (unit t w 0) ∙ rw (length-take-le (size + i) code (omega arith))))
+        written : take (size + (i + 3)) (sets code (size + i) (unit t w z)) ≡ take (size + i) code ++ unit t w z
+        written = rw (three, sets-eq (unit t w z) code (size + i) room)
+            (take-at (take (size + i) code ++ unit t w z) (drop (size + i + 3) code) (size + i + 3)
+            (length-append (take (size + i) code) (unit t w z) ∙ rw (length-take-le (size + i) code (omega arith))))
 
   ended : length tree ≤ i → run C (nodes e) (way [] before) Γ ≡ ok (way (slots kinds lengths h) (take (size + i) code)) Γ
   unfolding run nodes-words
@@ -382,15 +381,16 @@ module _ {text tree table : List ℕ} {count C size : ℕ} {code₀ kinds₀ len
           → (e : Expr) → Expression text tree e → Shows (take size code₀) code′ (size + length tree) (entries text table count) r (typed C e (entries text table count))
       walking-refused code′ q e x = let y = going-here (g .on e x) l in going-refused (g .on e x) y (s (y .node) (y .at)) code′ (size + length tree) q
 
-      pub walking-next : {k : Kind} {n w t a : ℕ} {code′ : List ℕ} → r ≡ Typed k n w → ((m : Node) → node-tag m ≡ getD tree i 0 → t ≡ code-tag m) → ((m : Node) → node-tag m ≡ getD tree i 0 → a ≡ arity m)
-          → code′ ≡ sets code (size + i) (unit t w 0)
+      pub walking-next : {k : Kind} {n w t z a : ℕ} {code′ : List ℕ} → r ≡ Typed k n w → ((m : Node) → node-tag m ≡ getD tree i 0 → t ≡ code-tag m)
+          → ((m : Node) → node-tag m ≡ getD tree i 0 → node-first m ≡ getD tree (i + 1) 0 → z ≡ code-place m) → ((m : Node) → node-tag m ≡ getD tree i 0 → a ≡ arity m)
+          → code′ ≡ sets code (size + i) (unit t w z)
           → Walking text tree table count C size code₀ kinds₀ lengths₀ code′ (set kinds (h - a) (kind-number k)) (set lengths (h - a) n) (i + 3) (h - a + 1)
-      walking-next {k} {n} {w} {t} {a} {code′} q ft fa ec =
+      walking-next {k} {n} {w} {t} {z} {a} {code′} q ft fz fa ec =
           let m = walking-room fa in
           record {
             ready = g .ready;
             some = g .some;
-            code-long = rw ec (length-sets code (size + i) (unit t w 0) ∙ g .code-long);
+            code-long = rw ec (length-sets code (size + i) (unit t w z) ∙ g .code-long);
             kinds-long = length-set kinds (h - a) (kind-number k) ∙ g .kinds-long;
             lengths-long = length-set lengths (h - a) n ∙ g .lengths-long;
             inside = m .words;
@@ -398,5 +398,5 @@ module _ {text tree table : List ℕ} {count C size : ℕ} {code₀ kinds₀ len
             on = λ e x.
                 let y = going-here (g .on e x) l in
                 let ea = fa (y .node) (y .at .is .tag-is) in
-                rw ec (going-next (g .on e x) y (s (y .node) (y .at)) q (ft (y .node) (y .at .is .tag-is)) (ap (λ b. h - b) ea) (m .unit) (omega (arith, m .kind, m .operands)) (omega (arith, m .lanes, m .operands)));
+                rw ec (going-next (g .on e x) y (s (y .node) (y .at)) q (ft (y .node) (y .at .is .tag-is)) (fz (y .node) (y .at .is .tag-is) (y .at .is .first-is)) (ap (λ b. h - b) ea) (m .unit) (omega (arith, m .kind, m .operands)) (omega (arith, m .lanes, m .operands)));
           }

@@ -9,10 +9,9 @@ use Rattle.meaning.specs.declared.Kind.the-variants.{Int as int, Bool as bool}
 use Rattle.meaning.specs.declared.Refusal.the-variants.{WrongKind, WrongLength}
 use Rattle.meaning.specs.Codes.{_>>=_, _>>_, give, check}
 use Rattle.meaning.specs.Tokens.{the}
-use Rattle.meaning.specs.Tree.{Name, Unary, Binary, Takes, ints, alike, Gives, a-bool, its-kind, table, unary-table, Expr, number, boolean, name, current-mask, unary, binary}
+use Rattle.meaning.specs.Tree.{Name, kind-number, _one-of_, Unary, Binary, Gives, a-bool, its-kind, table, unary-table, Expr, number, boolean, name, current-mask, unary, binary}
 use Rattle.meaning.specs.Memory.{bit}
-use Rattle.meaning.specs.Services.{kind-number}
-use Rattle.meaning.specs.Typing.{Types, same-kind, accepts, gives-kind, match, joined, variable-named}
+use Rattle.meaning.specs.Typing.{Types, accepts, gives-kind, match, joined, variable-named}
 use Rattle.layout.specs.Words.{binary-tag, unary-tag, boolean-tag}
 use Rattle.layout.specs.Table.{kind-of}
 use Rattle.layout.specs.Sound.{Spelled, stack-limit}
@@ -73,6 +72,15 @@ code-tag a-mask = the "current_mask"
 code-tag (a-unary p o) = unary-tag o
 code-tag (a-binary p o) = binary-tag o
 
+-- The third word of a node in the code: an operator's place.
+unfoldable pub code-place : Node → ℕ
+code-place (a-number n) = 0
+code-place (a-boolean b) = 0
+code-place (a-name p x) = 0
+code-place a-mask = 0
+code-place (a-unary p o) = p
+code-place (a-binary p o) = p
+
 -- How many operands it takes from the stack.
 unfoldable pub arity : Node → ℕ
 arity (a-number n) = 0
@@ -88,11 +96,7 @@ pub record Entry : Type 0 where
   pub lanes : ℕ
   pub word : ℕ
 
--- What an operator takes and gives, as tests.
-unfoldable pub ints? : Takes → Bool
-ints? ints = true
-ints? alike = false
-
+-- Does an operator give a bool?
 unfoldable pub a-bool? : Gives → Bool
 a-bool? a-bool = true
 a-bool? its-kind = false
@@ -111,7 +115,7 @@ step C (a-name p x) l = do
 step C a-mask l = give (record { kind = bool; lanes = C; word = 0 })
 step C (a-unary p o) [] = give (record { kind = int; lanes = 1; word = 0 })
 step C (a-unary p o) (a ∷ l) = do
-  check (same-kind (a .0) ((unary-table o) .1)) WrongKind p
+  check (a .0 one-of (unary-table o) .1) WrongKind p
   give (record { kind = a .0; lanes = a .1; word = kind-number (a .0) })
 step C (a-binary p o) [] = give (record { kind = int; lanes = 1; word = 0 })
 step C (a-binary p o) (b ∷ []) = give (record { kind = int; lanes = 1; word = 0 })

@@ -2,7 +2,7 @@
 use borrow.Author.Tests.{ne-eqb}
 use native.Mathlib.Omega.{arith}
 use borrow.Author.Needs.{needs}
-use Rattle.meaning.specs.Running.{unary-of, word}
+use Rattle.meaning.specs.Running.{word-unary, unary-of, word}
 use Rattle.blocks.specs.Operators.{sign-of}
 use Rattle.blocks.proofs.Words.{difference, is-zero}
 use Rattle.blocks.proofs.sign.Statement.{statement}
@@ -15,15 +15,15 @@ bit-requires : tie.Need-bit-requires
 bit-requires c κs = search needs
 
 returns : tie.Need-returns
-unfolding sign-of unary-of word
+unfolding sign-of unary-of word-unary word
 returns c = rw (c .before .match .keys1) (omega (arith, difference 0 _ _ (search needs) (search needs) (c .wrapping-sub-u32 .ensures)))
 
 returns-2 : tie.Need-returns-2
-unfolding sign-of unary-of
+unfolding sign-of unary-of word-unary
 returns-2 c = rw (c .match .keys2)
 
 returns-3 : tie.Need-returns-3
-unfolding sign-of unary-of
+unfolding sign-of unary-of word-unary
 returns-3 c = rw (ne-eqb _ 191 (c .before .match .rest .0 .1), ne-eqb _ 196 (c .before .match .rest .1), c .bit .ensures) (is-zero _)
 
 pub sign-spec : {M : Type 1} → statement M

@@ -1,5 +1,5 @@
 -- `listing::kind_number` meets its contract. Assumes nothing.
-use Rattle.meaning.specs.Services.{kind-number}
+use Rattle.meaning.specs.Tree.{kind-number}
 use Rattle.layout.specs.Table.{kind-of}
 use Rattle.listing.proofs.Laws.{not-int}
 use Rattle.listing.proofs.kind_number.Statement.{statement}

@@ -1,6 +1,6 @@
 -- `typing::kind_byte` meets its contract. Assumes nothing.
 use borrow.Author.Needs.{needs}
-use Rattle.meaning.specs.Services.{kind-number}
+use Rattle.meaning.specs.Tree.{kind-number}
 use Rattle.typing.proofs.kind_byte.Statement.{statement}
 use Rattle.typing.proofs.kind_byte.Tie as tie
 

@@ -1,6 +1,6 @@
 -- `typing::kind_number` meets its contract. Assumes nothing.
 use borrow.Author.Needs.{needs}
-use Rattle.meaning.specs.Services.{kind-number}
+use Rattle.meaning.specs.Tree.{kind-number}
 use Rattle.typing.proofs.kind_number.Statement.{statement}
 use Rattle.typing.proofs.kind_number.Tie as tie
 

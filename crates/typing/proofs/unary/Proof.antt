@@ -7,24 +7,21 @@ use Rattle.typing.specs.Answers.{entry-out}
 use Rattle.typing.proofs.unary.Statement.{statement}
 use Rattle.typing.proofs.unary.Tie as tie
 
-unary-kind-requires : tie.Need-unary-kind-requires
-unary-kind-requires c κs = search needs
-
-same-kind-requires : tie.Need-same-kind-requires
-same-kind-requires c κs = search needs
+unary-takes-requires : tie.Need-unary-takes-requires
+unary-takes-requires c κs = search needs
 
 returns : tie.Need-returns
 unfolding step entry-out
-returns c = λ o C l Γ h. record { is = rw (← c .before .before .unary-kind .ensures o h, ← c .before .same-kind .ensures, not-true (c .before .same-kind .result) (c .if1 .taken)) }
+returns c = λ o C l Γ h. record { is = rw (← c .before .unary-takes .ensures o h, not-true (c .before .unary-takes .result) (c .if1 .taken)) }
 
 kind-number-requires : tie.Need-kind-number-requires
 kind-number-requires c κs = search needs
 
 returns-2 : tie.Need-returns-2
 unfolding step entry-out
-returns-2 c = λ o C l Γ h. record { is = rw (← c .before .before .before .unary-kind .ensures o h, ← c .before .before .same-kind .ensures, not-false (c .before .before .same-kind .result) (c .before .if1 .left), c .kind-number .ensures) }
+returns-2 c = λ o C l Γ h. record { is = rw (← c .before .before .unary-takes .ensures o h, not-false (c .before .before .unary-takes .result) (c .before .if1 .left), c .kind-number .ensures) }
 
 pub unary-spec : {M : Type 1} → statement M
 unary-spec =
     tie.close
-    (tie.spec unary-kind-requires same-kind-requires returns kind-number-requires returns-2)
+    (tie.spec unary-takes-requires returns kind-number-requires returns-2)
