@@ -1,12 +1,12 @@
 -- How the definitions read an expression: one law for each way through the code.
-use Prim.Native.Nat.{ℕ, zero, suc, _+_, _-_, _<_}
+use Prim.Native.Nat.{ℕ, zero, suc, _+_, _-_, _≤_, _<_}
 use Prim.Native.String.{String}
 use mathlib.Core.Path.{_≡_, refl, sym, _∙_}
 use mathlib.Core.Bool.{Bool, true, false, _||_}
 use mathlib.Core.List.{List, [], _∷_, map}
 use mathlib.Core.Option.{Option, none, some}
 use native.Mathlib.Numerals.{add-one, sub-one}
-use native.Mathlib.Nat.{zero-add}
+use native.Mathlib.Nat.{zero-add, lt-of-not-le}
 use native.Mathlib.Omega.{arith}
 use lib.Dec.{eqb}
 use lib.ListN.{length, getD}
@@ -20,7 +20,7 @@ use Rattle.meaning.specs.Tree.{Unary, neg, inv, not, Binary, table, unary-table
 use Rattle.meaning.specs.Reading.{Reads, After, _⇒_, operator, look, next, choose, expect, as-long, more, binaries, operand, no-room, closed, unaries, expression, parenthesised}
 use Rattle.layout.specs.Words.{unit, flat, boolean-tag, unary-tag, binary-tag}
 use Rattle.expressions.proofs.Answers.{Leaf, So-far, turn-left, appends-then}
-use Rattle.expressions.specs.Contract.{Held, Appends, Read, token-at, from-level, signs-at, some?, joins-at}
+use Rattle.expressions.specs.Contract.{Held, Appends, Read, token-at, from-level, signs-at, some?, joins-at, Level}
 
 -- The token at a position: what it is, its place, and its value.
 pub record Seen (ts : List Token) (at k p v : ℕ) : Type 0 where
@@ -305,7 +305,84 @@ module _ (l r : ℕ) (ts : List Token) where
       wrote = appends-then (s .wrote) (appends-then (d .wrote) (rw (zero-add, ← w .sign) at put));
     }
 
--- What is found in a table is there if the first entry is it, or one of the others.
-pub some-if : (b : Bool) (o : Binary) (rest : Option Binary) → some? (if b then (λ _. some o) else λ _. rest) ≡ (b || some? rest)
-some-if true o rest = refl
-some-if false o rest = refl
+-- The levels by their numbers, and one more, which has no operators.
+abbrev eight : List ℕ
+eight = 0 ∷ 1 ∷ 2 ∷ 3 ∷ 4 ∷ 5 ∷ 6 ∷ 7 ∷ []
+
+-- A kind's level is found by a look at each of them.
+pub level-is : {k level : ℕ} → map (λ l. joins-at l k) eight ≡ map (λ l. eqb l level) eight → Level k level
+level-is {k} {level} e = record { is = go }
+  where
+    go : (l : ℕ) → l < 8 → joins-at l k ≡ eqb l level
+    go zero lt = cc
+    go (suc zero) lt = cc
+    go (suc (suc zero)) lt = cc
+    go (suc (suc (suc zero))) lt = cc
+    go (suc (suc (suc (suc zero)))) lt = cc
+    go (suc (suc (suc (suc (suc zero))))) lt = cc
+    go (suc (suc (suc (suc (suc (suc zero)))))) lt = cc
+    go (suc (suc (suc (suc (suc (suc (suc zero))))))) lt = cc
+    go (suc (suc (suc (suc (suc (suc (suc (suc l)))))))) lt = absurd (omega arith)
+
+-- A kind that is none of `| ^ & == != < > <= >= + - *` has no level.
+pub level-none : {k : ℕ} → (k ≡ 66 → ⊥) → (k ≡ 67 → ⊥) → (k ≡ 65 → ⊥) → (k ≡ 48 → ⊥) → (k ≡ 49 → ⊥) → (k ≡ 60 → ⊥) → (k ≡ 61 → ⊥) → (k ≡ 50 → ⊥) → (k ≡ 51 → ⊥) → (k ≡ 62 → ⊥) → (k ≡ 63 → ⊥) → (k ≡ 64 → ⊥) → Level k 8
+unfolding joins-at operator levels table the words marks numbered reserved signs
+level-none {k} a b c d e f g h i j m o =
+    level-is (rw (ne-eqb k 66 a, ne-eqb k 67 b, ne-eqb k 65 c, ne-eqb k 48 d, ne-eqb k 49 e, ne-eqb k 60 f, ne-eqb k 61 g, ne-eqb k 50 h, ne-eqb k 51 i, ne-eqb k 62 j, ne-eqb k 63 m, ne-eqb k 64 o))
+
+-- Level 7 has no operators.
+pub seven-none : (k : ℕ) → joins-at 7 k ≡ false
+unfolding joins-at operator levels
+seven-none k = refl
+
+-- A token joins at its own level, which is one of the seven, and at no other.
+module _ {k level : ℕ} (x : Level k level) where
+  pub joins-here : level < 8 → joins-at level k ≡ true
+  joins-here lt = x .is level lt ∙ eq-eqb level level refl
+
+  pub joins-not : (l : ℕ) → l < 8 → (l ≡ level → ⊥) → joins-at l k ≡ false
+  joins-not l lt ne = x .is l lt ∙ ne-eqb l level ne
+
+  pub below-seven : level < 8 → level < 7
+  below-seven lt = lt-of-not-le (λ le. let seven : level ≡ 7 = omega arith in let found : joins-at 7 k ≡ true = rw (← seven) (joins-here lt) in
+      let z : _≡_ {A = ℕ} 0 1 = cc (seven-none k) in absurd (omega arith))
+
+-- All levels begin at the same token: what a tighter one, m, has read from there is what a looser one, l, has read so far.
+module _ (r : ℕ) (ts : List Token) (at : ℕ) where
+  -- After the first operand level 7 is at work.
+  pub operands-begin : {old new : List ℕ} {n p q k pl v : ℕ} → Seen ts p k pl v → Read (unaries ts r at) flat old n new p q
+      → So-far (from-level ts 7 r at) (joined 7 r ts) flat (length ts) old n new p q
+  operands-begin {k = k} t d = record {
+    turns = suc (length ts);
+    what = d .what;
+    enough = omega arith;
+    is = level-last ts 7 r at refl ∙ d .is ∙ sym (joins-ends t 7 (from-level ts (7 + 1) r) (length ts) (d .what) (seven-none k));
+    wrote = d .wrote;
+  }
+
+  -- A refusal of one level is one of every looser level.
+  pub looser-refused : {c : Refusal} {q : ℕ} (d l m : ℕ) → m ≡ l + d → m ≤ 7 → from-level ts m r at ≡ refused c q → from-level ts l r at ≡ refused c q
+  looser-refused zero l m is le e = let same : l ≡ m = omega arith in rw same e
+  looser-refused (suc d) l m is le e = level-refused l r ts at (omega arith) (looser-refused d (l + 1) m (omega arith) le e)
+
+  module _ {old new : List ℕ} {n p q k pl v : ℕ} (t : Seen ts p k pl v) (lt : p < length ts) where
+    -- Before a token that joins at none of the levels from l to m, level l has read what level m has.
+    pub looser-read : (d l m : ℕ) → m ≡ l + d → m ≤ 7 → ((j : ℕ) → l ≤ j → j < m → joins-at j k ≡ false)
+        → Read (from-level ts m r at) flat old n new p q → Read (from-level ts l r at) flat old n new p q
+    looser-read zero l m is le apart read = let same : l ≡ m = omega arith in rw same read
+    looser-read (suc d) l m is le apart read =
+        level-ends l r ts t lt (level-begins l r ts at (omega arith) (looser-read d (l + 1) m (omega arith) le (λ j a b. apart j (omega arith) b) read))
+        (apart l (omega arith) (omega arith))
+
+    -- Level m is at work, and the next token's own level is `next`.
+    module _ {m next : ℕ} (le : m ≤ 7) (x : Level k next) (s : So-far (from-level ts m r at) (joined m r ts) flat (length ts) old n new p q) where
+      -- Where that is none from l to m, level l has read the same.
+      pub looser-ends : (l : ℕ) → l ≤ m → ((j : ℕ) → l ≤ j → j ≤ m → j ≡ next → ⊥) → Read (from-level ts l r at) flat old n new p q
+      looser-ends l below apart =
+          let no : (j : ℕ) → l ≤ j → j ≤ m → joins-at j k ≡ false = λ j a b. joins-not x j (omega arith) (apart j a b) in
+          looser-read (m - l) l m (omega arith) le (λ j a b. no j a (omega arith)) (level-ends m r ts t lt s (no m below (omega arith)))
+
+      -- Where that is one from 0 to m, it is the level at work.
+      pub looser-goes-on : (d : ℕ) → m ≡ next + d → So-far (from-level ts next r at) (joined next r ts) flat (length ts) old n new p q
+      looser-goes-on zero is = let same : next ≡ m = omega arith in rw same s
+      looser-goes-on (suc d) is = level-begins next r ts at (omega arith) (looser-ends (next + 1) (omega arith) (λ j a b e. omega arith))

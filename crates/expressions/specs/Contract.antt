@@ -4,6 +4,7 @@ use mathlib.Core.Path.{_≡_}
 use mathlib.Core.Bool.{Bool, true, false}
 use mathlib.Core.List.{List, [], _∷_, _++_, map}
 use mathlib.Core.Option.{Option}
+use lib.Dec.{eqb}
 use lib.ListN.{length, getD, take, drop}
 use Rattle.meaning.specs.declared.Refusal.{Refusal}
 use Rattle.meaning.specs.declared.Refusal.the-variants.{NotAllowed}
@@ -80,6 +81,10 @@ some? o = option false (λ _. true) o
 -- Is a token of kind k an operator of a level?
 unfoldable pub joins-at : ℕ → ℕ → Bool
 joins-at level k = some? (operator k (getD levels level []))
+
+-- Of the first eight levels, the last of which has no operators, a token of kind k is an operator of this one alone.
+pub record Level (k level : ℕ) : Type 0 where
+  pub is : (l : ℕ) → l < 8 → joins-at l k ≡ eqb l level
 
 -- Is it a unary one?
 unfoldable pub signs-at : ℕ → Bool

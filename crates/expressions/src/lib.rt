@@ -6,10 +6,18 @@ ghost use lib.ListN.{length, getD};
 ghost use Rattle.meaning.specs.Tokens.{the};
 ghost use Rattle.meaning.specs.Reading.{unaries, parenthesised, expression};
 ghost use Rattle.layout.specs.Words.{unit, flat};
-ghost use Rattle.expressions.specs.Contract.{Ready, Shows, Appends, Expects, from-level, signs-at, joins-at, token-at};
+ghost use Rattle.expressions.specs.Contract.{Ready, Shows, Appends, Expects, from-level, signs-at, Level, token-at};
 use layout::put_unit;
 use layout::token;
 use meaning::Refusal;
+
+// The level of operands, behind the seven of binary operators, and the level of a token that is no binary operator.
+const OPERANDS: u32 = 7;
+
+const NO_OPERATOR: u32 = 8;
+
+// What the tag of a unary operator is more than its kind.
+const UNARY: u32 = 128;
 
 // What a reading call answers: the next token and the words of the tree so far, or a refusal and its place.
 pub enum Reading {
@@ -69,23 +77,24 @@ fn put_operator(
     size + 3
 }
 
-// Is the token at `at` an operator of the level? Loosest first.
-fn joins(level: u32, kinds: &[u8], at: usize) -> bool
-    requires { ⌜ (level < 7) × (at < length (now kinds)) ⌝ }
-    ensures { λ r. ⌜ r ≡ joins-at level (getD (now (kinds .entry)) at 0) ⌝ }
+// The level of a binary operator of this kind, loosest first.
+fn level_of(kind: u8) -> u32
+    ensures { λ r. ⌜ Level kind r ⌝ }
 {
-    let kind = kinds[at];
-    match level {
-        0 => kind == token::OR,
-        1 => kind == token::XOR,
-        2 => kind == token::AND,
-        3 => (kind == token::EQUAL) | (kind == token::UNEQUAL),
-        4 => (kind == token::BELOW)
-            | (kind == token::ABOVE)
-            | (kind == token::AT_MOST)
-            | (kind == token::AT_LEAST),
-        5 => (kind == token::PLUS) | (kind == token::MINUS),
-        _ => kind == token::TIMES,
+    match kind {
+        token::OR => 0,
+        token::XOR => 1,
+        token::AND => 2,
+        token::EQUAL => 3,
+        token::UNEQUAL => 3,
+        token::BELOW => 4,
+        token::ABOVE => 4,
+        token::AT_MOST => 4,
+        token::AT_LEAST => 4,
+        token::PLUS => 5,
+        token::MINUS => 5,
+        token::TIMES => 6,
+        _ => NO_OPERATOR,
     }
 }
 
@@ -165,7 +174,7 @@ fn unary(
     let Reading::Done { at: p, size: q } = inner else {
         return inner;
     };
-    let grown = put_operator(128, kinds, places, at, tree, q);
+    let grown = put_operator(UNARY, kinds, places, at, tree, q);
     Reading::Done { at: p, size: grown }
 }
 
@@ -192,7 +201,8 @@ pub fn parenthesised(
     expect(token::CLOSE, kinds, places, p, q)
 }
 
-// Reads operands joined by operators of the level or of tighter ones.
+// Reads operands joined by operators of the level or of tighter ones. What is read so far is a part of what the level `last` reads,
+// so an operator of that level or of a looser one goes on with it, and any other token ends it.
 fn binary(
     level: u32,
     kinds: &[u8],
@@ -207,24 +217,26 @@ fn binary(
     requires { ⌜ level ≤ 7 ⌝ }
     ensures { λ r. ⌜ Shows 1 (λ ts. from-level ts level room at) flat (now (kinds .entry)) (now (places .entry)) (now (values .entry)) at (now (tree .entry)) size (now (tree .exit)) r ⌝ }
 {
-    if level == 7 {
-        return operand(kinds, places, values, at, room, tree, size);
-    }
-    let first = binary(level + 1, kinds, places, values, at, room, tree, size);
+    let first = operand(kinds, places, values, at, room, tree, size);
     let Reading::Done { at: p0, size: q0 } = first else {
         return first;
     };
     let mut p = p0;
     let mut q = q0;
-    while joins(level, kinds, p) {
-        let right = binary(level + 1, kinds, places, values, p + 1, room, tree, q);
+    let mut last = OPERANDS;
+    loop {
+        let next = level_of(kinds[p]);
+        if (next < level) | (last < next) {
+            return Reading::Done { at: p, size: q };
+        }
+        let right = binary(next + 1, kinds, places, values, p + 1, room, tree, q);
         let Reading::Done { at: p1, size: q1 } = right else {
             return right;
         };
         q = put_operator(0, kinds, places, p, tree, q1);
         p = p1;
+        last = next;
     }
-    Reading::Done { at: p, size: q }
 }
 
 // Reads an expression.

@@ -1,5 +1,5 @@
 -- The four functions that read an expression call each other: unread tokens, paired with the level, fall.
-use Prim.Native.Nat.{ℕ, _+_, _*_, _-_, _<_}
+use Prim.Native.Nat.{ℕ, _+_, _*_, _-_, _≤_, _<_}
 use mathlib.Core.Path.{refl, sym, _∙_}
 use native.Mathlib.Omega.{arith}
 use borrow.Author.Needs.{needs}
@@ -7,11 +7,12 @@ use lib.ListN.{length}
 use Rattle.meaning.specs.Tokens.{the, words, marks, numbered, reserved, signs}
 use Rattle.layout.specs.Words.{flat}
 use Rattle.expressions.specs.Contract.{from-level}
-use Rattle.expressions.proofs.Answers.{Going}
-use Rattle.expressions.proofs.Laws.{joined}
+use Rattle.expressions.proofs.Climbing.{Climb}
 use borrow.Fn.Kinds.{In}
 use borrow.Fn.PlainCycle.{Measures, is, falls, and}
 use Rattle.expressions.proofs.Answers as answers
+use Rattle.expressions.proofs.Climbing as climb
+use Rattle.expressions.proofs.Climbing as climb
 use Rattle.expressions.proofs.Laws as law
 use Rattle.expressions.proofs.binary.Reads as binary
 use Rattle.expressions.proofs.binary.Kinds as binary-kinds
@@ -26,8 +27,8 @@ use Rattle.expressions.proofs.unary.Reads as unary
 use Rattle.expressions.proofs.unary.Kinds as unary-kinds
 use Rattle.expressions.proofs.+binary+operand+parenthesised+unary.Lts-unary as unary-lts
 use Rattle.expressions.proofs.expect.Reads as expect-reads
-use Rattle.expressions.proofs.joins.Reads as joins-reads
 use Rattle.expressions.proofs.leaf.Reads as leaf-reads
+use Rattle.expressions.proofs.level_of.Reads as level-of-reads
 use Rattle.expressions.proofs.put_operator.Reads as put-operator-reads
 use Rattle.expressions.proofs.refuse.Reads as refuse-reads
 use Rattle.expressions.proofs.signs.Reads as signs-reads
@@ -71,7 +72,7 @@ abbrev unary-at : ℕ → In 4 unary-kinds.ps
 unary-at t = and 4 unary-kinds.ps (is 4 unary-kinds.ps μ-unary t) unary.Pre
 
 abbrev binary-claims : ℕ → binary-lts.Claims
-binary-claims t = (operand-below t, operand.Post, binary-below t, binary.Post, joins-reads.Asked, joins-reads.Learnt, put-operator-reads.Asked, put-operator-reads.Learnt)
+binary-claims t = (operand-below t, operand.Post, level-of-reads.Asked, level-of-reads.Learnt, binary-below t, binary.Post, put-operator-reads.Asked, put-operator-reads.Learnt)
 
 abbrev operand-claims : ℕ → operand-lts.Claims
 operand-claims t = (signs-reads.Asked, signs-reads.Learnt, unary-below t, unary.Post, parenthesised-below t, parenthesised.Post, leaf-reads.Asked, leaf-reads.Learnt)
@@ -83,11 +84,10 @@ abbrev unary-claims : ℕ → unary-lts.Claims
 unary-claims t = (refuse-reads.Asked, refuse-reads.Learnt, operand-below t, operand.Post, put-operator-reads.Asked, put-operator-reads.Learnt)
 
 abbrev binary-Inv-loop : binary-lts.InvT-loop
-binary-Inv-loop level kinds places values at room tree₀ size p0 q0 p₀ q₀ tree p q =
-    Going 1 (λ ts. from-level ts level room at) (joined level room) flat kinds places values at tree₀ size tree p q
+binary-Inv-loop level kinds places values at room tree₀ size p0 q0 p₀ q₀ last₀ tree p q last = Climb level last room kinds places values at tree₀ size tree p q
 
 abbrev binary-μ-loop : binary-lts.MeasureT-loop
-binary-μ-loop level kinds places values at room tree₀ size p0 q0 p₀ q₀ tree p q = length kinds - p
+binary-μ-loop level kinds places values at room tree₀ size p0 q0 p₀ q₀ last₀ tree p q last = length kinds - p
 
 -- A unary operator.
 module _ (t : ℕ) where
@@ -104,11 +104,14 @@ module _ (t : ℕ) where
 
   unary-put-operator-requires : unary-lts.Need-put-operator-requires (unary-claims t) (unary-at t) unary.Post
   unary-put-operator-requires c κs =
-      let m = c .before .before .before .before .before .before .operand .ensures .moved _ _ (c .before .before .inner .given .1) in omega arith
+      let done = c .before .before in
+      let m = done .before .before .before .before .operand .ensures .moved _ _ (done .inner .given .1) in
+      omega arith
 
   unary-returns-3 : unary-lts.Need-returns-3 (unary-claims t) (unary-at t) unary.Post
   unary-returns-3 c =
-      answers.shows-then (c .before .before .before .before .before .before .before .before .before .operand .ensures) (c .before .before .before .before .before .inner .given .1) refl (λ m. omega arith)
+      let done = c .before .before .before .before .before in
+      answers.shows-then (done .before .before .before .before .operand .ensures) (done .inner .given .1) refl (λ m. omega arith)
       (λ ts h m d. law.unary-read _ (law.seen h (search needs)) (search) (search) d (search))
 
 -- An expression in parentheses.
@@ -121,11 +124,15 @@ module _ (t : ℕ) where
       answers.hands-up (c .before .before .before .before .binary .ensures) (c .enum-told .given .1) (λ ts h said. law.enclosed-refused ts _ _ (search) said)
 
   parenthesised-expect-requires : parenthesised-lts.Need-expect-requires (parenthesised-claims t) (parenthesised-at t) parenthesised.Post
-  parenthesised-expect-requires c κs = let m = c .before .before .before .before .before .binary .ensures .moved _ _ (c .before .inner .given .1) in omega arith
+  parenthesised-expect-requires c κs =
+      let done = c .before in
+      let m = done .before .before .before .before .binary .ensures .moved _ _ (done .inner .given .1) in
+      omega arith
 
   parenthesised-returns-3 : parenthesised-lts.Need-returns-3 (parenthesised-claims t) (parenthesised-at t) parenthesised.Post
   parenthesised-returns-3 c =
-      answers.shows-expect (λ a. a) (λ a. refl) (search) (c .before .before .before .before .before .before .binary .ensures) (c .before .before .inner .given .1) (c .expect .ensures) (omega arith)
+      let done = c .before .before in
+      answers.shows-expect (λ a. a) (λ a. refl) (search) (done .before .before .before .before .binary .ensures) (done .inner .given .1) (c .expect .ensures) (omega arith)
       (λ ts h lt a e is. law.enclosed-read ts _ _ (search) (law.seen h lt) e is) (λ ts h lt a e is. law.enclosed-open ts _ _ (search) (law.seen h lt) e is)
 
 -- An operand.
@@ -148,73 +155,60 @@ module _ (t : ℕ) where
   operand-returns-3 c =
       answers.shows-alike (c .before .before .leaf .ensures) (omega arith) (λ ts h. law.read-leaf _ (law.seen h (search needs)) (cc) (search))
 
--- A level.
+-- A level: its first operand, and then a turn for each operator.
 module _ (t : ℕ) where
   binary-returns : binary-lts.Need-returns (binary-claims t) (binary-at t) binary.Post binary-Inv-loop binary-μ-loop
-  binary-returns c = answers.shows-alike (c .before .before .operand .ensures) (omega arith) (λ ts h. law.level-last ts _ _ _ (search))
-
-  binary-returns-2 : binary-lts.Need-returns-2 (binary-claims t) (binary-at t) binary.Post binary-Inv-loop binary-μ-loop
-  binary-returns-2 c = answers.hands-up (c .before .before .before .before .binary .ensures) (c .enum-told .given .1) (λ ts h said. law.level-refused _ _ ts _ (omega arith) said)
+  binary-returns c = climb.first-refused _ _ (c .before .before .before .before .operand .ensures) (omega arith) (c .enum-told .given .1)
 
   binary-loop-holds : binary-lts.Need-loop-holds (binary-claims t) (binary-at t) binary.Post binary-Inv-loop binary-μ-loop
   binary-loop-holds c =
-      let first = c .before .before .before .before .before .binary .ensures in
-      let m = first .moved _ _ (c .before .first .given .1) in
-      record {
-        moved = m;
-        kept = refl;
-        so-far = λ ts h. law.level-begins _ _ ts _ (omega arith) (answers.read-here (omega arith) (omega arith) (first .done _ _ (c .before .first .given .1) ts h));
-      }
+      let first = c .before in
+      climb.begins _ _ (first .before .before .before .before .operand .ensures) (omega arith) (first .first .given .1) (search) (search)
 
-  binary-joins-requires : binary-lts.Need-joins-requires (binary-claims t) (binary-at t) binary.Post binary-Inv-loop binary-μ-loop
-  binary-joins-requires c κs = omega arith
+  binary-returns-2 : binary-lts.Need-returns-2 (binary-claims t) (binary-at t) binary.Post binary-Inv-loop binary-μ-loop
+  binary-returns-2 c =
+      let first = c .before .before .before .before .before in
+      climb.ends _ _ (first .before .before .before .before .operand .ensures) (omega arith) (first .first .given .1) (search) (search)
+      (c .before .before .before .loop .inv) (c .before .level-of .ensures) (search)
 
-  binary-binary-requires-2 : binary-lts.Need-binary-requires-2 (binary-claims t) (binary-at t) binary.Post binary-Inv-loop binary-μ-loop
-  binary-binary-requires-2 c κs =
-      let g = c .before .before .before .loop .inv in
-      let joins = sym (c .before .before .joins .ensures) ∙ c .before .if2 .taken in
-      let kept = g .kept ∙ c .before .before .before .before .before .before .before .before .before .binary .kept .1 .1 .1 .1 .1 .1 .0 in
-      (omega arith, (answers.ready-next (answers.ready-on (c .before .before .before .before .before .before .before .before .before .before .before .before .before .before .before .before .pre .1 .0) (g .moved) kept) refl (law.joins-above _ _ joins), omega arith))
+  binary-add-binary : binary-lts.Need-add-binary (binary-claims t) (binary-at t) binary.Post binary-Inv-loop binary-μ-loop
+  binary-add-binary c = omega (arith, climb.turn-level (c .before .before .before .loop .inv) (c .before .level-of .ensures) (search))
+
+  binary-binary-requires : binary-lts.Need-binary-requires (binary-claims t) (binary-at t) binary.Post binary-Inv-loop binary-μ-loop
+  binary-binary-requires c κs =
+      let level = c .before .before in
+      let climbs = level .before .before .loop .inv in
+      let own = level .level-of .ensures in
+      let turn = climb.turn-level climbs own (search) in
+      (omega arith, (climb.turn-ready climbs own (search), omega arith))
 
   binary-returns-3 : binary-lts.Need-returns-3 (binary-claims t) (binary-at t) binary.Post binary-Inv-loop binary-μ-loop
   binary-returns-3 c =
-      let g = c .before .before .before .before .before .before .before .before .loop .inv in
-      answers.hands-up (c .before .before .before .before .binary2 .ensures) (c .enum-told2 .given .1)
-      (λ ts h said. law.level-fails _ _ ts (law.seen h (g .moved .within)) (omega (arith, h .whole)) (g .so-far ts h) (cc) said)
+      let right = c .before .before .before .before in
+      let level = right .before .before .before in
+      climb.turn-refused (level .before .before .loop .inv) (level .level-of .ensures) (search) (right .binary .ensures) (c .enum-told2 .given .1)
 
   binary-put-operator-requires : binary-lts.Need-put-operator-requires (binary-claims t) (binary-at t) binary.Post binary-Inv-loop binary-μ-loop
   binary-put-operator-requires c κs =
-      let g = c .before .before .before .before .before .before .before .before .before .before .loop .inv in
-      let m = c .before .before .before .before .before .before .binary2 .ensures .moved _ _ (c .before .before .right .given .1) in
-      omega (arith, c .before .before .before .before .before .before .before .before .before .before .before .before .before .before .before .before .before .before .before .before .before .before .before .pre, c .before .before .before .before .before .before .before .before .before .before .before .before .before .before .before .before .binary .kept)
+      let done = c .before .before in
+      let right = done .before .before .before .before in
+      let level = right .before .before .before in
+      climb.turn-room (level .before .before .loop .inv) (level .level-of .ensures) (search) (right .binary .ensures) (done .right .given .1) (search)
 
   binary-loop-less : binary-lts.Need-loop-less (binary-claims t) (binary-at t) binary.Post binary-Inv-loop binary-μ-loop
   binary-loop-less c =
-      let g = c .before .before .before .before .before .before .before .before .before .before .before .before .before .loop .inv in
-      let m = c .before .before .before .before .before .before .before .before .before .binary2 .ensures .moved _ _ (c .before .before .before .before .before .right .given .1) in
-      omega arith
+      let done = c .before .before .before .before .before in
+      let right = done .before .before .before .before in
+      let level = right .before .before .before in
+      climb.turn-less (level .before .before .loop .inv) (level .level-of .ensures) (search) (right .binary .ensures) (done .right .given .1) (search)
 
   binary-loop-again : binary-lts.Need-loop-again (binary-claims t) (binary-at t) binary.Post binary-Inv-loop binary-μ-loop
   binary-loop-again c =
-      let g = c .before .before .before .before .before .before .before .before .before .before .before .before .before .loop .inv in
-      let right = c .before .before .before .before .before .before .before .before .before .binary2 .ensures in
-      let m = right .moved _ _ (c .before .before .before .before .before .right .given .1) in
-      let put = c .before .before .put-operator .ensures in
-      record {
-        moved = omega arith;
-        kept = c .before .before .put-operator .kept .1 .1 .1 .1 .0 ∙ c .before .before .before .before .before .before .before .before .before .binary2 .kept .1 .1 .1 .1 .1 .1 .0 ∙ g .kept;
-        so-far = λ ts h. law.level-goes-on _ _ ts (law.seen h (g .moved .within)) (omega (arith, h .whole)) (g .so-far ts h)
-            (sym (c .before .before .before .before .before .before .before .before .before .before .before .before .joins .ensures) ∙ c .before .before .before .before .before .before .before .before .before .before .before .if2 .taken) (omega arith) (right .done _ _ (c .before .before .before .before .before .right .given .1) ts h) (put .1);
-      }
-
-  binary-returns-4 : binary-lts.Need-returns-4 (binary-claims t) (binary-at t) binary.Post binary-Inv-loop binary-μ-loop
-  binary-returns-4 c =
-      let g = c .before .before .loop .inv in
-      let first = c .before .before .before .before .before .before .before .before .binary .ensures in
-      let m = first .moved _ _ (c .before .before .before .before .first .given .1) in
-      answers.shows-done refl (g .moved)
-      (λ ts h. answers.read-from (omega arith) (omega arith) (first .done _ _ (c .before .before .before .before .first .given .1) ts h)
-      (law.level-ends _ _ ts (law.seen h (g .moved .within)) (omega (arith, h .whole)) (g .so-far ts h) (cc)))
+      let done = c .before .before .before .before .before in
+      let right = done .before .before .before .before in
+      let level = right .before .before .before in
+      climb.turn-read (level .before .before .loop .inv) (level .level-of .ensures) (search) (right .binary .ensures) (done .right .given .1) (search) (search)
+      (c .before .before .put-operator .ensures)
 
 pub +binary+operand+parenthesised+unary-spec : {M : Type 1} → statement M
 +binary+operand+parenthesised+unary-spec =
@@ -224,27 +218,24 @@ pub +binary+operand+parenthesised+unary-spec : {M : Type 1} → statement M
     binary-μ-loop
     (λ c κs. search needs)
     (λ c. search needs)
+    (λ c. search needs)
+    (λ c. search needs)
     (binary-returns t)
+    (binary-loop-holds t)
     (λ c. search needs)
-    (λ c κs. (omega arith, (search needs, omega arith)))
-    (λ c. search needs)
-    (λ c. search needs)
+    (λ c κs. search needs)
     (λ c. search needs)
     (binary-returns-2 t)
-    (binary-loop-holds t)
-    (binary-joins-requires t)
+    (binary-add-binary t)
     (λ c. search needs)
-    (λ c. search needs)
-    (binary-binary-requires-2 t)
+    (binary-binary-requires t)
     (λ c. search needs)
     (λ c. search needs)
     (λ c. search needs)
     (binary-returns-3 t)
     (binary-put-operator-requires t)
     (binary-loop-less t)
-    (binary-loop-again t)
-    (λ c. search needs)
-    (binary-returns-4 t))
+    (binary-loop-again t))
     (λ t. operand-lts.spec (operand-claims t) (operand-at t) operand.Post
     (λ c κs. search needs)
     (operand-unary-requires t)
