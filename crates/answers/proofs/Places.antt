@@ -17,7 +17,7 @@ use Rattle.meaning.specs.Memory.{Memory, Declarations, need}
 use Rattle.meaning.specs.Running as R
 use Rattle.meaning.specs.Running.{Ran, stopped, done}
 use Rattle.meaning.specs.Services.{answer, pass, judged, verdict, judge, evaluate, effect, ended, executed, run}
-use Rattle.lex.proofs.Spelled.{Spelled, the-last, one-more, lexed-accepted, lexed-refused}
+use Rattle.tokens.proofs.Spelled.{Spelled, the-last, one-more, lexed-accepted, lexed-refused}
 use Rattle.answers.specs.Near.{Within, fine, at-most, Near-stmts, Near-program, Stops, near-done, near-spent}
 use Rattle.answers.proofs.Reading.{read-within}
 use Rattle.answers.proofs.Typing.{program-within}

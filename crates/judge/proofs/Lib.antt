@@ -1,4 +1,1 @@
-pub mod Shapes
-pub mod Walk
-pub mod Sequence
-pub mod Coincide
+pub mod Verdicts

@@ -11,7 +11,7 @@ use Rattle.meaning.specs.Reading.{read}
 use Rattle.meaning.specs.Typing.{typed-program}
 use Rattle.meaning.specs.Services.{pass, judged}
 use Rattle.layout.specs.Sound.{Runnable, Laid}
-use Rattle.lex.proofs.Spelled.{lexed-refused}
+use Rattle.tokens.proofs.Spelled.{lexed-refused}
 use Rattle.limits.proofs.Outcomes.{Ends, not, early}
 use Rattle.limits.proofs.Tokens.{kept}
 use Rattle.limits.proofs.Reading.{read-ends, walkable}

@@ -5,7 +5,7 @@ use Prim.Native.Nat.{ℕ}
 use native.Mathlib.Omega.{arith}
 use Rattle.meaning.specs.Codes.{ok}
 use Rattle.meaning.specs.Tokens.{Token, lexed}
-use Rattle.lex.proofs.Spelled.{lexed-accepted, spelled-later, spelled-name}
+use Rattle.tokens.proofs.Spelled.{lexed-accepted, spelled-later, spelled-name}
 use Rattle.limits.specs.Tokens.{Keeps}
 
 pub kept : (text : List ℕ) (ts : List Token) (p : ℕ) → lexed text ≡ ok ts p → Keeps text ts

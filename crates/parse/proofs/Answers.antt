@@ -10,13 +10,13 @@ use Rattle.meaning.specs.Tokens.{Token, lexed}
 use Rattle.meaning.specs.Tree.{none-yet}
 use Rattle.meaning.specs.Reading.{read}
 use Rattle.meaning.specs.Services.{pass}
-use Rattle.lex.specs.declared.Lexed.the-variants.{All, Refused as NotLexed}
-use Rattle.lex.specs.Lexing.{Lexes}
-use Rattle.lex.proofs.Spelled.{lexed-short}
-use Rattle.expressions.specs.declared.Reading.{Reading}
-use Rattle.expressions.specs.declared.Reading.the-variants.{Done, Refused}
-use Rattle.expressions.specs.Contract.{outcome}
-use Rattle.read.specs.Contract.{Tells}
+use Rattle.tokens.specs.declared.Lexed.the-variants.{All, Refused as NotLexed}
+use Rattle.tokens.specs.Lexing.{Lexes}
+use Rattle.tokens.proofs.Spelled.{lexed-short}
+use Rattle.reading_expressions.specs.declared.Reading.{Reading}
+use Rattle.reading_expressions.specs.declared.Reading.the-variants.{Done, Refused}
+use Rattle.reading_expressions.specs.Contract.{outcome}
+use Rattle.reading.specs.Contract.{Tells}
 use Rattle.limits.proofs.Tokens.{kept}
 use Rattle.limits.proofs.Reading.{walkable}
 use Rattle.parse.specs.Contract.{Parses}

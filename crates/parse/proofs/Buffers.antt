@@ -7,13 +7,13 @@ use lib.ListN.{length, getD, take}
 use lib.Seq.{length-take-le, getD-take}
 use Rattle.meaning.specs.Codes.{text-limit}
 use Rattle.meaning.specs.Tokens.{Token, end-at}
-use Rattle.lex.specs.declared.Lexed.{Lexed}
-use Rattle.lex.specs.declared.Lexed.the-variants.{All}
-use Rattle.lex.specs.Lexing.{Lexes}
-use Rattle.lex.proofs.Words.{the-end}
-use Rattle.lex.proofs.Spelled.{Accepted, lexed-accepted, lexed-short, spelled-some, spelled-last}
-use Rattle.expressions.specs.Contract.{Held}
-use Rattle.read.specs.Contract.{Lent}
+use Rattle.tokens.specs.declared.Lexed.{Lexed}
+use Rattle.tokens.specs.declared.Lexed.the-variants.{All}
+use Rattle.tokens.specs.Lexing.{Lexes}
+use Rattle.tokens.proofs.Words.{the-end}
+use Rattle.tokens.proofs.Spelled.{Accepted, lexed-accepted, lexed-short, spelled-some, spelled-last}
+use Rattle.reading_expressions.specs.Contract.{Held}
+use Rattle.reading.specs.Contract.{Lent}
 
 -- An answer that is known.
 pub known : {text kinds places values : List ℕ} {r q : Lexed} → Lexes text r kinds places values → r ≡ q → Lexes text q kinds places values

@@ -10,10 +10,10 @@ use Rattle.meaning.specs.Reading.{read}
 use Rattle.meaning.specs.Services.{pass}
 use Rattle.layout.specs.Words.{flat-stmts}
 use Rattle.layout.specs.Sound.{All-walkable}
-use Rattle.lex.specs.Lexing as L
-use Rattle.expressions.specs.declared.Reading.{Reading}
-use Rattle.expressions.specs.declared.Reading.the-variants.{Done}
-use Rattle.expressions.specs.Contract.{outcome}
+use Rattle.tokens.specs.Lexing as L
+use Rattle.reading_expressions.specs.declared.Reading.{Reading}
+use Rattle.reading_expressions.specs.declared.Reading.the-variants.{Done}
+use Rattle.reading_expressions.specs.Contract.{outcome}
 
 -- The tokens and the tree of a text that is not too long have room.
 pub record Room (text kinds places values tree : List ℕ) : Type 0 where

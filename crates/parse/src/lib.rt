@@ -1,9 +1,9 @@
 // A text to its tree: the lexer, and then the reader over its buffers.
 ghost use Rattle.parse.specs.Contract.{Room, Parses};
-use expressions::Reading;
-use lex::Lexed;
-use lex::lex;
-use read::read;
+use reading_expressions::Reading;
+use tokens::Lexed;
+use tokens::lex;
+use reading::read;
 
 // The text's flat tree into a lent buffer, by way of its tokens in three others; or the first refusal of 1 to 4.
 pub fn parse(

@@ -5,7 +5,7 @@ use mathlib.Core.List.{List, [], _++_}
 use native.Mathlib.Omega.{arith}
 use lib.ListN.{length, length-append}
 use lib.Seq.{length-sets}
-use Rattle.records.proofs.Stores.{sets-append}
+use Rattle.numbers.proofs.Stores.{sets-append}
 use Rattle.print.specs.Printed.{Printed}
 
 pub printed-none : (page : List ℕ) (at : ℕ) → Printed page at [] page at

@@ -9,10 +9,10 @@ use Rattle.meaning.specs.Codes.{code, ok, refused, text-limit}
 use Rattle.meaning.specs.Services.{answer, judged, verdict, judge, judge-call, executed, run}
 use Rattle.layout.specs.Table.{entries}
 use Rattle.answers.proofs.Places.{run-place-low}
-use Rattle.judge.specs.declared.Judged.{Judged}
-use Rattle.judge.specs.declared.Judged.the-variants.{Accepted, Refused}
-use Rattle.judge.specs.Answers.{judged-out, Accepts}
-use Rattle.verdict.specs.Contract.{Gives}
+use Rattle.typing.specs.declared.Judged.{Judged}
+use Rattle.typing.specs.declared.Judged.the-variants.{Accepted, Refused}
+use Rattle.typing.specs.Answers.{judged-out, Accepts}
+use Rattle.judge.specs.Contract.{Gives}
 use Rattle.promises.specs.Promise.{Kept, with-answer, holding}
 use Rattle.ruihmento.specs.Room.{Buffers}
 use Rattle.ruihmento.proofs.Slices.{not-called, kept}

@@ -9,9 +9,9 @@ use Rattle.meaning.specs.Codes.{code}
 use Rattle.meaning.specs.Memory.{Declared, Declarations}
 use Rattle.meaning.specs.Services.{verdict, listed, table-of, variables, variables-call}
 use Rattle.layout.specs.Table.{entry, entries}
-use Rattle.typing.proofs.Names.{length-entries}
-use Rattle.judge.specs.declared.Judged.the-variants.{Accepted, Refused}
-use Rattle.verdict.specs.Contract.{Gives}
+use Rattle.typing_expressions.proofs.Names.{length-entries}
+use Rattle.typing.specs.declared.Judged.the-variants.{Accepted, Refused}
+use Rattle.judge.specs.Contract.{Gives}
 use Rattle.promises.specs.Promise.{Kept, with-answer}
 use Rattle.ruihmento.specs.Room.{Leaves}
 use Rattle.ruihmento.proofs.Slices.{not-called, kept, leaves}

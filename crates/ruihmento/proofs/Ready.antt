@@ -16,9 +16,9 @@ use Rattle.meaning.specs.Typing.{joined}
 use Rattle.meaning.specs.Services.{judged}
 use Rattle.layout.specs.Table.{entry, entries, Lies}
 use Rattle.layout.specs.Sound.{Runnable, Laid}
-use Rattle.typing.specs.Rows.{Rows}
-use Rattle.typing.proofs.Names.{length-entries, entries-at}
-use Rattle.typing.proofs.Tables.{rows-laid}
+use Rattle.typing_expressions.specs.Rows.{Rows}
+use Rattle.typing_expressions.proofs.Names.{length-entries, entries-at}
+use Rattle.typing_expressions.proofs.Tables.{rows-laid}
 use Rattle.limits.proofs.Outcomes.{Ends, well}
 use Rattle.limits.proofs.Accepted.{judged-ends}
 use Rattle.lane.proofs.Lanes as L
@@ -26,8 +26,8 @@ use Rattle.lane.proofs.Sound as S
 use Rattle.lane.proofs.Service.{judged-narrow}
 use Rattle.blocks.specs.Widths.{wide}
 use Rattle.engine.specs.Lengths.{width, Spreadable, Fits, fits-nothing, fits-step, fits-put, fits-both, fits-choice, fits-cycle, fits-alone}
-use Rattle.judge.specs.declared.Judged.the-variants.{Accepted}
-use Rattle.verdict.specs.Contract.{Gives}
+use Rattle.typing.specs.declared.Judged.the-variants.{Accepted}
+use Rattle.judge.specs.Contract.{Gives}
 use Rattle.ruihmento.specs.Room.{Prepared}
 use Rattle.ruihmento.proofs.Judging.{is-accepted, accepts}
 

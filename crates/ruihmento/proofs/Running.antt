@@ -22,8 +22,8 @@ use Rattle.engine.specs.declared.Ended.the-variants.{Done, Spent}
 use Rattle.engine.specs.Ending.{program-run, ran}
 use Rattle.engine.specs.Runs.{Runs}
 use Rattle.engine.proofs.Budgets.{leaves-less}
-use Rattle.judge.specs.declared.Judged.the-variants.{Accepted, Refused}
-use Rattle.verdict.specs.Contract.{Lent, Gives}
+use Rattle.typing.specs.declared.Judged.the-variants.{Accepted, Refused}
+use Rattle.judge.specs.Contract.{Lent, Gives}
 use Rattle.promises.specs.Promise.{Kept, with-answer}
 use Rattle.ruihmento.specs.Room.{Scratch, Prepared, Leaves}
 use Rattle.ruihmento.proofs.Slices.{not-called, kept, leaves}

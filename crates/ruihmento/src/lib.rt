@@ -12,12 +12,12 @@ ghost use Rattle.promises.specs.Promise.{Kept, with-answer, holding};
 ghost use Rattle.ruihmento.specs.Room.{Buffers, Scratch, Prepared, Leaves};
 use engine::Ended;
 use engine::execute;
-use judge::Judged;
-use listing::list;
+use typing::Judged;
+use variables::list;
 use meaning::Refusal;
 use meaning::code_of;
-use records::put_record;
-use verdict::judged;
+use numbers::put_record;
+use judge::judged;
 
 // The bytes of an answer.
 const ANSWER: usize = 16;

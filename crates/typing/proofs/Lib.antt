@@ -1,5 +1,4 @@
-pub mod Tags
-pub mod Names
-pub mod Tables
+pub mod Shapes
 pub mod Walk
-pub mod Steps
+pub mod Sequence
+pub mod Coincide

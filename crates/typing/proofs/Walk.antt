@@ -1,402 +1,303 @@
--- Typing an expression node by node over a stack is typing it as the definition does.
-use Prim.Native.Nat.{ℕ, zero, suc, _+_, _-_, _≤_, _<_}
+-- Each way through the typing of a statement that holds others, and of a program, gives what the definition says, and writes its program.
+use Prim.Native.Nat.{ℕ, _+_, _-_, _≤_}
 use native.Mathlib.Omega.{arith}
-use native.Mathlib.Nat.{add-zero, le-max-left, le-max-right}
-use native.Mathlib.Numerals.{add-one}
 use mathlib.Core.Path.{_≡_, refl, sym, ap, _∙_}
-use mathlib.Core.Bool.{Bool, true, false}
-use mathlib.Core.List.{List, [], _∷_, _++_, append-nil, append-assoc}
-use lib.ListN.{length, getD, take, drop, set, length-set, length-append, length-drop}
-use lib.Seq.{sets, length-sets, sets-eq, getD-set-same, getD-set-other, getD-drop, drop-drop, take-at, length-take-le}
+use mathlib.Core.List.{List, _++_, append-assoc}
+use lib.ListN.{length, getD, take}
+use lib.Seq.{sets}
 use Rattle.meaning.specs.declared.Kind.{Kind}
 use Rattle.meaning.specs.declared.Refusal.{Refusal}
-use Rattle.meaning.specs.declared.Refusal.the-variants.{WrongKind, WrongLength}
-use Rattle.meaning.specs.Codes.{nesting-limit, Out, ok, refused, after, _>>_, give, check}
-use Rattle.meaning.specs.Tree.{Name, kind-number, _one-of_, Unary, Binary, table, unary-table, Expr, number, boolean, name, current-mask, unary, binary}
-use Rattle.meaning.specs.Program as P
-use Rattle.meaning.specs.Program.{constant}
-use Rattle.meaning.specs.Memory.{Declarations}
-use Rattle.meaning.specs.Typing as T
-use Rattle.meaning.specs.Typing.{Types, typed}
-use Rattle.layout.specs.Words.{unit, binary-tag, unary-tag, flat}
-use Rattle.layout.specs.Code.{code-words}
-use Rattle.layout.specs.Table.{kind-of, entries}
-use Rattle.layout.specs.Sound.{Spelled, stack, stack-limit, Names, of-number, of-boolean, of-name, of-mask, of-unary, of-binary}
-use Rattle.typing.specs.declared.Typing.{Typing}
-use Rattle.typing.specs.declared.Typing.the-variants.{Typed, Refused}
-use Rattle.typing.specs.Nodes.{Node, a-number, a-boolean, a-name, a-mask, a-unary, a-binary, nodes, node-tag, node-first, node-second, nodes-words, code-tag, code-place, arity, Entry, Slot, step, slots, Node-at}
-use Rattle.typing.specs.Answers.{There-is, Expression, entry-out, Steps, typed-out, Ready, Shows}
-use Rattle.typing.proofs.Tags.{kind-back}
+use Rattle.meaning.specs.Codes.{Out, ok, after}
+use Rattle.meaning.specs.Tokens.{the, numbered, reserved, words, signs, marks}
+use Rattle.meaning.specs.Tree.{Stmt, Stmts}
+use Rattle.meaning.specs.Program.{Code, Program, nothing, choice, cycle, alone}
+use Rattle.meaning.specs.Memory.{Declarations, need}
+use Rattle.meaning.specs.Typing.{joined, typed-condition, typed-statement, typed-statements, typed-program, scope}
+use Rattle.layout.specs.Words.{unit, headed}
+use Rattle.layout.specs.Code.{code-words, program-words}
+use Rattle.layout.specs.Table.{entries}
+use Rattle.typing_expressions.specs.declared.Typing.{Typing}
+use Rattle.typing_expressions.specs.declared.Typing.the-variants as typing
+use Rattle.typing_expressions.specs.Rows.{Listed, end-of, closed}
+use Rattle.typing_expressions.specs.Answers.{Ready, Shows}
+use Rattle.typing_expressions.proofs.Names.{length-entries}
+use Rattle.typing_expressions.proofs.Tables.{listed-one}
+use Rattle.typing_simple.specs.declared.Walked.{Walked}
+use Rattle.typing_simple.specs.declared.Walked.the-variants.{On, Refused}
+use Rattle.typing_simple.specs.Shapes.{part}
+use Rattle.typing_simple.specs.Answers.{Walks, Steps-on, Open, Scoped}
+use Rattle.typing_simple.proofs.Words.{length-part, rest-long, then, kept, inside, long-of, unit-over}
+use Rattle.typing_simple.proofs.Outcomes
+use Rattle.typing_simple.proofs.Listed.{condition-listed, listed-joined}
+use Rattle.typing.specs.declared.Judged.{Judged}
+use Rattle.typing.specs.declared.Judged.the-variants as judged
+use Rattle.typing.specs.Shapes.{Braces, Choice, Cycle, Alone}
+use Rattle.typing.specs.Answers.{refused-up, judged-out, Lent, Judges}
 
--- ---- nodes and words
-words-append : (l m : List Node) → nodes-words (l ++ m) ≡ nodes-words l ++ nodes-words m
-unfolding nodes-words
-words-append [] m = refl
-words-append (n ∷ l) m = rw (words-append l m)
+-- ---- a head of six words
+-- The words of a choice and a cycle, from those of their parts.
+choice-words : (c₀ c₁ c₂ : List ℕ) (n end p : ℕ) (e : Code) (s t : Program) → take end c₁ ≡ take (n + 6) c₀ ++ (code-words e ++ (program-words s ++ program-words t)) → n + 6 ≤ end → n + 6 ≤ length c₀
+    → take end c₂ ≡ take n c₁ ++ headed 19 p (unit (length (code-words e)) (length (program-words s)) 0) (part c₁ (n + 6) end) → take end c₂ ≡ take n c₀ ++ program-words (choice p e s t)
+unfolding program-words the numbered reserved words signs marks
+choice-words c₀ c₁ c₂ n end p e s t h l r w =
+    let all = code-words e ++ (program-words s ++ program-words t) in w ∙ rw (kept c₀ c₁ all n 6 end h l r, inside c₀ c₁ all n 6 end h l r)
 
-flat-nodes : (e : Expr) → flat e ≡ nodes-words (nodes e)
-unfolding flat nodes nodes-words node-tag node-first node-second
-flat-nodes (number n) = refl
-flat-nodes (boolean b) = refl
-flat-nodes (name p x) = refl
-flat-nodes current-mask = refl
-flat-nodes (unary p o e) = rw (flat-nodes e, words-append (nodes e) (a-unary p o ∷ []))
-flat-nodes (binary p o a b) = rw (flat-nodes a, flat-nodes b, words-append (nodes a) (nodes b ++ (a-binary p o ∷ [])), words-append (nodes b) (a-binary p o ∷ []))
+cycle-words : (c₀ c₁ c₂ : List ℕ) (n end p : ℕ) (e : Code) (s : Program) → take end c₁ ≡ take (n + 6) c₀ ++ (code-words e ++ program-words s) → n + 6 ≤ end → n + 6 ≤ length c₀
+    → take end c₂ ≡ take n c₁ ++ headed 21 p (unit (length (code-words e)) 0 0) (part c₁ (n + 6) end) → take end c₂ ≡ take n c₀ ++ program-words (cycle p e s)
+unfolding program-words the numbered reserved words signs marks
+cycle-words c₀ c₁ c₂ n end p e s h l r w =
+    let all = code-words e ++ program-words s in w ∙ rw (kept c₀ c₁ all n 6 end h l r, inside c₀ c₁ all n 6 end h l r)
 
--- ---- the stack suffices: from a height h on, nodes find their operands and leave no more than fits
-pub data Fits (text : List ℕ) : List Node → ℕ → Type 0 where
-  none : {h : ℕ} → Fits text [] h
-  more : {n : Node} {l : List Node} {h : ℕ} → ((p : ℕ) (x : Name) → n ≡ a-name p x → Spelled text p x) → arity n ≤ h → h + 1 - arity n ≤ stack-limit → Fits text l (h + 1 - arity n) → Fits text (n ∷ l) h
+-- ---- `;`
+pub step-walks : {text tree table code code′ kinds lengths : List ℕ} {C count size : ℕ} {r : Walked} {s : Stmt} → Ready text tree table code kinds lengths C count size → 3 ≤ length tree → Steps-on count size s code code′ r
+    → Walks text table (take size code) code′ count (size + length tree) r (typed-statement C s (entries text table count))
+step-walks {text = text} {table = table} {C = C} {count} g l s = Outcomes.on-walks (s .answer) (s .is C (entries text table count)) (record { rows = g .rows; more = omega arith; room = omega arith; words = s .words })
 
-some : (e : Expr) → 1 ≤ stack e
-unfolding stack
-some (number n) = omega arith
-some (boolean b) = omega arith
-some (name p x) = omega arith
-some current-mask = omega arith
-some (unary p o a) = some a
-some (binary p o a b) = omega (arith, le-max-right (stack a) (suc (stack b)))
+-- ---- a scope
+pub scope-open : {text T before code : List ℕ} {count end : ℕ} {one : Walked} {o : Out Declarations Program} → Walks text T before code count end one o → (n z : ℕ) → one ≡ On n z → Open count n T
+scope-open w n z q = let k = w .on n z q in record { order = k .more; few = k .rows .few; room = k .rows .room }
 
-module _ {text : List ℕ} where
-  one : (n : Node) {l : List Node} (h g : ℕ) → ((p : ℕ) (x : Name) → n ≡ a-name p x → Spelled text p x) → g ≡ h + 1 - arity n → arity n ≤ h → g ≤ stack-limit → Fits text l g → Fits text (n ∷ l) h
-  one n {l} h g s e a b f = more {l = l} s a (rw (← e) b) (rw (← e) f)
+pub scope-walks : {text tree T T₁ U before code c₀ kinds lengths : List ℕ} {C count size end : ℕ} {one r : Walked} → Ready text tree T c₀ kinds lengths C count size → (m : Declarations → Out Declarations Program) → Walks text T₁ before code count end one (m (entries text T count)) → Scoped count one T₁ U r
+    → Walks text U before code count end r (scope m (entries text T count))
+unfolding scope closed
+scope-walks {text} {T = T} {T₁} {U} {before} {code} {count = count} {end = end} {one} {r} g m w s = go one refl
+  where
+    go : (o : Walked) → one ≡ o → Walks text U before code count end r (scope m (entries text T count))
+    go (Refused c p) q = Outcomes.no-walks (s .same ∙ q) (rw (Outcomes.walks-no w q))
+    go (On n z) q =
+        let k = w .on n z q in
+        let c = s .closes n z q in
+        Outcomes.on-walks (s .same ∙ q) (rw (Outcomes.walks-ok w q) (rw (length-entries text T count) (ap (ok (w .program)) (sym (c .shuts text)))))
+        (record { rows = c .keeps text (k .rows); more = k .more; room = k .room; words = k .words })
 
-  no-name : (n : Node) → ((p : ℕ) (x : Name) → n ≡ a-name p x → _≡_ {A = ℕ} 0 1) → (p : ℕ) (x : Name) → n ≡ a-name p x → Spelled text p x
-  no-name n h p x q = let z = h p x q in absurd (omega arith)
+-- Braces are a scope of what is inside.
+pub braces-ok : {text tree T T₁ U code code₁ kinds lengths : List ℕ} {C count size r : ℕ} {s : Stmt} {all w : Walked} → Ready text tree T code kinds lengths C count size → (b : Braces text r tree s)
+    → Walks text T₁ (take size code) code₁ count (size + length (part tree 3 (length tree))) all (typed-statements C (b .inside) (entries text T count)) → Scoped count all T₁ U w
+    → Walks text U (take size code) code₁ count (size + length tree) w (typed-statement C s (entries text T count))
+unfolding typed-statement
+braces-ok {tree = tree} {C = C} {size = size} g b x s = let v = scope-walks g (typed-statements C (b .inside)) x s in
+    record {
+      program = v .program;
+      is = v .is ∙ rw (b .is);
+      on = λ n z q. let k = v .on n z q in record { rows = k .rows; more = k .more; room = omega (arith, k .room, rest-long tree 3 size (b .long)); words = k .words };
+    }
 
-  fits-nodes : {e : Expr} → Names text e → (h : ℕ) → h + stack e ≤ stack-limit → (l : List Node) → Fits text l (h + 1) → Fits text (nodes e ++ l) h
-  unfolding nodes stack arity
-  fits-nodes (of-number {n}) h b l f = one (a-number n) h (h + 1) (no-name (a-number n) (λ p x q. cc)) (omega arith) (omega arith) b f
-  fits-nodes (of-boolean {b}) h r l f = one (a-boolean b) h (h + 1) (no-name (a-boolean b) (λ p x q. cc)) (omega arith) (omega arith) r f
-  fits-nodes (of-name {p} {x} s) h b l f = one (a-name p x) h (h + 1) (λ q y z. same q y z (cc) (cc)) (omega arith) (omega arith) b f
-    where
-      same : (q : ℕ) (y : Name) → a-name p x ≡ a-name q y → p ≡ q → x ≡ y → Spelled text q y
-      same q y z i j = rw (← i, ← j) s
-  fits-nodes of-mask h b l f = one a-mask h (h + 1) (no-name a-mask (λ p x q. cc)) (omega arith) (omega arith) b f
-  fits-nodes (of-unary {p} {o} {a} m) h b l f =
-      rw (append-assoc (nodes a) (a-unary p o ∷ []) l)
-      (fits-nodes m h b (a-unary p o ∷ l) (one (a-unary p o) (h + 1) (h + 1) (no-name (a-unary p o) (λ p x q. cc)) (omega arith) (omega arith) (omega (arith, some a)) f))
-  fits-nodes (of-binary {p} {o} {a} {b} m n) h r l f =
-      rw (append-assoc (nodes a) (nodes b ++ (a-binary p o ∷ [])) l, append-assoc (nodes b) (a-binary p o ∷ []) l)
-      (fits-nodes m h (omega (arith, le-max-left (stack a) (suc (stack b)))) (nodes b ++ (a-binary p o ∷ l))
-      (fits-nodes n (h + 1) (omega (arith, le-max-right (stack a) (suc (stack b)))) (a-binary p o ∷ l)
-      (one (a-binary p o) (h + 1 + 1) (h + 1) (no-name (a-binary p o) (λ p x q. cc)) (omega arith) (omega arith) (omega (arith, le-max-right (stack a) (suc (stack b)))) f)))
+-- ---- `if`
+module _ {text tree T code kinds lengths : List ℕ} {C count size r a b : ℕ} {s : Stmt} (g : Ready text tree T code kinds lengths C count size) (k : Choice text r tree a b s)
+    {code₁ : List ℕ} {p : ℕ} {t : Typing} (ep : p ≡ getD tree 1 0)
+    (te : Shows (take (size + 6) code) code₁ (size + 6 + length (part tree 6 (6 + a))) (entries text T count) t (typed-condition C p (k .test) (entries text T count))) where
+  test-long : length (part tree 6 (6 + a)) ≡ a
+  test-long = length-part tree 6 (6 + a) (omega arith) (omega (arith, k .long)) ∙ omega arith
 
--- ---- the walk
--- On the way: the kinds and lengths on the stack, and the code words so far.
-pub record Way : Type 0 where
-  pub on : List Slot
-  pub words : List ℕ
+  choice-is : typed-statement C s (entries text T count) ≡ after (typed-condition C p (k .test) (entries text T count)) (λ v Δ.
+      after (scope (typed-statement (joined (v .lanes) C) (k .first)) Δ) (λ x Θ.
+      after (scope (typed-statement (joined (v .lanes) C) (k .second)) Θ) (λ y Ξ. ok (choice (getD tree 1 0) (v .code) x y) Ξ)))
+  unfolding typed-statement
+  choice-is = rw (k .is, ep)
 
-abbrev pub way : List Slot → List ℕ → Way
-way l w = record { on = l; words = w }
+  pub choice-test : {U code′ : List ℕ} {c : Refusal} {q : ℕ} {w : Walked} → t ≡ typing.Refused c q → w ≡ Refused c q → Walks text U (take size code) code′ count (size + length tree) w (typed-statement C s (entries text T count))
+  choice-test h i = Outcomes.no-walks i (choice-is ∙ rw (Outcomes.shows-no te h))
 
-abbrev pub pushed : Node → Entry → Way → Way
-pushed n x v = way ((x .kind, x .lanes) ∷ drop (arity n) (v .on)) (v .words ++ unit (code-tag n) (x .word) (code-place n))
+  module _ {j : Kind} {n u D : ℕ} (h : t ≡ typing.Typed j n u) (ed : D ≡ joined n C) where
+    pub choice-listed : Listed D
+    choice-listed = rw ed (listed-joined (condition-listed (g .listed) (g .rows) p (k .test) te h) (g .listed))
 
-abbrev pub entered : T.Typed → Way → Way
-entered a v = way ((a .kind, a .lanes) ∷ v .on) (v .words ++ code-words (a .code))
+    module _ {T₁ code₂ : List ℕ} {one : Walked} (fi : Walks text T₁ (take (size + (6 + a)) code₁) code₂ count (size + (6 + a) + length (part tree (6 + a) (6 + a + b))) one (scope (typed-statement D (k .first)) (entries text T count))) where
+      pub choice-first : {code′ : List ℕ} {c : Refusal} {q : ℕ} → one ≡ Refused c q → Walks text T₁ (take size code) code′ count (size + length tree) one (typed-statement C s (entries text T count))
+      choice-first i = Outcomes.no-walks i (choice-is ∙ rw (Outcomes.shows-ok te h) (rw (← ed) (rw (Outcomes.walks-no fi i))))
 
-pub run : ℕ → List Node → Way → Types Way
-run C [] v Γ = ok v Γ
-run C (n ∷ l) v Γ = after (step C n (v .on) Γ) (λ x Δ. run C l (pushed n x v) Δ)
+      module _ {m y : ℕ} (i : one ≡ On m y) {T₂ code₃ : List ℕ} {two : Walked}
+          (se : Walks text T₂ (take y code₂) code₃ m (y + length (part tree (6 + a + b) (length tree))) two (scope (typed-statement D (k .second)) (entries text T₁ m))) where
+        pub choice-second : {code′ : List ℕ} {c : Refusal} {q : ℕ} → two ≡ Refused c q → Walks text T₂ (take size code) code′ count (size + length tree) two (typed-statement C s (entries text T count))
+        choice-second f = Outcomes.no-walks f (choice-is ∙ rw (Outcomes.shows-ok te h) (rw (← ed) (rw (Outcomes.walks-ok fi i) (rw (Outcomes.walks-no se f)))))
 
-module _ {S A B D : Type 0} where
-  pub after-after : (o : Out S A) (f : A → S → Out S B) (g : B → S → Out S D) → after (after o f) g ≡ after o (λ a s. after (f a s) g)
-  after-after (ok a s) f g = refl
-  after-after (refused c p) f g = refl
+        module _ {o z : ℕ} (f : two ≡ On o z) (l₁ : length code₁ ≡ length code) (l₂ : length code₂ ≡ length code₁) (l₃ : length code₃ ≡ length code₂) where
+          -- Where each part of the code ends.
+          pub record Ends : Type 0 where
+            pub first : y ≡ size + (6 + a) + length (program-words (fi .program))
+            pub test : a ≡ length (code-words (te .becomes))
+            pub second : y ≤ z
+            pub last : z ≤ size + length tree
+            pub inside : z ≤ length code₃
 
-module _ {S A B : Type 0} where
-  pub after-same : (o : Out S A) (f g : A → S → Out S B) → ((a : A) (s : S) → f a s ≡ g a s) → after o f ≡ after o g
-  after-same (ok a s) f g h = h a s
-  after-same (refused c p) f g h = refl
+          pub choice-ends : Ends
+          choice-ends =
+              let ra = length-part tree (6 + a) (6 + a + b) (omega arith) (k .long) in
+              let rb = length-part tree (6 + a + b) (length tree) (k .long) (omega arith) in
+              let x = fi .on m y i in
+              let v = se .on o z f in
+              let below : y ≤ length code₂ = omega (arith, x .room, g .code-room, k .long) in
+              let far : z ≤ size + length tree = omega (arith, x .room, v .room, k .long) in
+              record {
+                first = long-of code₁ code₂ (program-words (fi .program)) (size + (6 + a)) y (x .words) below (omega (arith, g .code-room, k .long));
+                test = omega (arith, test-long, long-of code code₁ (code-words (te .becomes)) (size + 6) (size + 6 + length (part tree 6 (6 + a))) (te .words j n u h) (omega (arith, test-long, g .code-room, k .long)) (omega (arith, g .code-room, k .long)));
+                second = omega (arith, long-of code₂ code₃ (program-words (se .program)) y z (v .words) (omega (arith, g .code-room)) below);
+                last = far;
+                inside = omega (arith, g .code-room);
+              }
 
--- What `typed` makes of operands that are typed.
-abbrev unary-typed : ℕ → Unary → T.Typed → Types T.Typed
-unary-typed p o a = check (a .kind one-of (unary-table o) .1) WrongKind p >> give (record { code = P.one p (a .kind) o (a .code); kind = a .kind; lanes = a .lanes })
+          -- The same, as the head of six words wants it: no program is named.
+          pub choice-start : size + (6 + a) ≤ y
+          choice-start = omega (arith, choice-ends .first)
 
-abbrev binary-typed : ℕ → Binary → T.Typed → T.Typed → Types T.Typed
-binary-typed p o a b =
-    check (T.accepts ((table o) .1) (a .kind) (b .kind)) WrongKind p
-    >> (check (T.match (a .lanes) (b .lanes)) WrongLength p
-    >> give (record { code = P.two p (a .kind) o (a .code) (b .code); kind = T.gives-kind ((table o) .2) (a .kind); lanes = T.joined (a .lanes) (b .lanes) }))
+          pub choice-low : y ≤ 12288
+          choice-low = let d = choice-ends in omega (arith, d .second, d .last, g .short)
 
-module _ (C p : ℕ) where
-  unary-on : (o : Unary) (l : List Node) (v : Way) (a : T.Typed) (Γ : Declarations) → run C (a-unary p o ∷ l) (entered a v) Γ ≡ after (unary-typed p o a Γ) (λ t Δ. run C l (entered t v) Δ)
-  unfolding run step arity code-tag code-place code-words
-  unary-on o l v a Γ = go (a .kind one-of (unary-table o) .1)
-    where
-      x : Entry
-      x = record { kind = a .kind; lanes = a .lanes; word = kind-number (a .kind) }
+          pub choice-room : (size + 6 ≤ z) × (z ≤ length code₃) × (z ≤ 12288)
+          choice-room = let d = choice-ends in (omega (arith, d .first, d .second), d .inside, omega (arith, d .last, g .short))
 
-      go : (b : Bool) → after ((check b WrongKind p >> give x) Γ) (λ x Δ. run C l (pushed (a-unary p o) x (entered a v)) Δ)
-          ≡ after ((check b WrongKind p >> give (record { code = P.one p (a .kind) o (a .code); kind = a .kind; lanes = a .lanes })) Γ) (λ t Δ. run C l (entered t v) Δ)
-      go true = rw (append-assoc (v .words) (code-words (a .code)) (unit (unary-tag o) (kind-number (a .kind)) p))
-      go false = refl
+          written : take z code₃ ≡ take (size + 6) code ++ (code-words (te .becomes) ++ (program-words (fi .program) ++ program-words (se .program)))
+          written =
+              let e = code-words (te .becomes) in
+              let x = program-words (fi .program) in
+              let from : size + 6 + length (part tree 6 (6 + a)) ≡ size + (6 + a) = omega (arith, test-long) in
+              let one = then (take (size + 6) code) e x (rw from at (te .words j n u h)) (fi .on m y i .words) in
+              then (take (size + 6) code) (e ++ x) (program-words (se .program)) one (se .on o z f .words) ∙ rw (append-assoc e x (program-words (se .program)))
 
-  binary-on : (o : Binary) (l : List Node) (v : Way) (a b : T.Typed) (Γ : Declarations) → run C (a-binary p o ∷ l) (entered b (entered a v)) Γ ≡ after (binary-typed p o a b Γ) (λ t Δ. run C l (entered t v) Δ)
-  unfolding run step arity code-tag code-place code-words
-  binary-on o l v a b Γ = go (T.accepts ((table o) .1) (a .kind) (b .kind)) (T.match (a .lanes) (b .lanes))
-    where
-      k : Kind
-      k = T.gives-kind ((table o) .2) (a .kind)
+          pub choice-ok : {code₄ : List ℕ} → take z code₄ ≡ take size code₃ ++ headed 19 (getD tree 1 0) (unit a (y - (size + (6 + a))) 0) (part code₃ (size + 6) z)
+              → Walks text T₂ (take size code) code₄ count (size + length tree) (On o z) (typed-statement C s (entries text T count))
+          choice-ok {code₄} w =
+              let d = choice-ends in
+              let v = se .on o z f in
+              let size-of : y - (size + (6 + a)) ≡ length (program-words (fi .program)) = omega (arith, d .first) in
+              Outcomes.on-walks refl (choice-is ∙ rw (Outcomes.shows-ok te h) (rw (← ed) (rw (Outcomes.walks-ok fi i) (rw (Outcomes.walks-ok se f))))) (record {
+                rows = v .rows;
+                more = omega (arith, fi .on m y i .more, v .more);
+                room = d .last;
+                words = choice-words code code₃ code₄ size z (getD tree 1 0) (te .becomes) (fi .program) (se .program) written (omega (arith, d .first, d .second)) (omega (arith, g .code-room, k .long)) (rw (d .test) at (rw size-of at w));
+              })
 
-      n : ℕ
-      n = T.joined (a .lanes) (b .lanes)
+-- ---- `while`
+module _ {text tree T code kinds lengths : List ℕ} {C count size r a : ℕ} {s : Stmt} (g : Ready text tree T code kinds lengths C count size) (k : Cycle text r tree a s)
+    {code₁ : List ℕ} {p : ℕ} {t : Typing} (ep : p ≡ getD tree 1 0)
+    (te : Shows (take (size + 6) code) code₁ (size + 6 + length (part tree 6 (6 + a))) (entries text T count) t (typed-condition C p (k .test) (entries text T count))) where
+  turn-long : length (part tree 6 (6 + a)) ≡ a
+  turn-long = length-part tree 6 (6 + a) (omega arith) (k .long) ∙ omega arith
 
-      go : (s t : Bool) → after ((check s WrongKind p >> (check t WrongLength p >> give (record { kind = k; lanes = n; word = kind-number (a .kind) }))) Γ) (λ x Δ. run C l (pushed (a-binary p o) x (entered b (entered a v))) Δ)
-          ≡ after ((check s WrongKind p >> (check t WrongLength p >> give (record { code = P.two p (a .kind) o (a .code) (b .code); kind = k; lanes = n }))) Γ) (λ t Δ. run C l (entered t v) Δ)
-      go true true =
-          let u = unit (binary-tag o) (kind-number (a .kind)) p in
-          rw (append-assoc (v .words ++ code-words (a .code)) (code-words (b .code)) u, append-assoc (v .words) (code-words (a .code)) (code-words (b .code) ++ u))
-      go true false = refl
-      go false t = refl
+  cycle-is : typed-statement C s (entries text T count) ≡ after (typed-condition C p (k .test) (entries text T count)) (λ v Δ.
+      after (scope (typed-statement (joined (v .lanes) C) (k .body)) Δ) (λ x Θ. ok (cycle (getD tree 1 0) (v .code) x) Θ))
+  unfolding typed-statement
+  cycle-is = rw (k .is, ep)
 
-module _ (C : ℕ) where
-  walk : (e : Expr) (l : List Node) (v : Way) (Γ : Declarations) → run C (nodes e ++ l) v Γ ≡ after (typed C e Γ) (λ a Δ. run C l (entered a v) Δ)
-  unfolding run nodes typed step arity code-tag code-place code-words
-  walk (number n) l v Γ = refl
-  walk (boolean b) l v Γ = refl
-  walk (name p x) l v Γ = simp after-after
-  walk current-mask l v Γ = refl
-  walk (unary p o e) l v Γ =
-      rw (append-assoc (nodes e) (a-unary p o ∷ []) l)
-      (walk e (a-unary p o ∷ l) v Γ ∙ after-same (typed C e Γ) _ _ (λ a Δ. unary-on C p o l v a Δ) ∙ sym (after-after (typed C e Γ) _ _))
-  walk (binary p o e e′) l v Γ =
-      rw (append-assoc (nodes e) (nodes e′ ++ (a-binary p o ∷ [])) l, append-assoc (nodes e′) (a-binary p o ∷ []) l)
-      (walk e (nodes e′ ++ (a-binary p o ∷ l)) v Γ ∙ after-same (typed C e Γ) _ _ (λ a Δ. walk e′ (a-binary p o ∷ l) (entered a v) Δ
-      ∙ after-same (typed C e′ Δ) _ _ (λ b Θ. binary-on C p o l v a b Θ) ∙ sym (after-after (typed C e′ Δ) _ _)) ∙ sym (after-after (typed C e Γ) _ _))
+  pub cycle-test : {U code′ : List ℕ} {c : Refusal} {q : ℕ} {w : Walked} → t ≡ typing.Refused c q → w ≡ Refused c q → Walks text U (take size code) code′ count (size + length tree) w (typed-statement C s (entries text T count))
+  cycle-test h i = Outcomes.no-walks i (cycle-is ∙ rw (Outcomes.shows-no te h))
 
-  -- The whole expression.
-  walked : (e : Expr) (v : Way) (Γ : Declarations) → run C (nodes e) v Γ ≡ after (typed C e Γ) (λ a Δ. ok (entered a v) Δ)
-  unfolding run
-  walked e v Γ = rw (append-nil (nodes e)) at (walk e [] v Γ)
+  module _ {j : Kind} {n u D : ℕ} (h : t ≡ typing.Typed j n u) (ed : D ≡ joined n C) where
+    pub cycle-listed : Listed D
+    cycle-listed = rw ed (listed-joined (condition-listed (g .listed) (g .rows) p (k .test) te h) (g .listed))
 
--- ---- the stack in its buffers
-module _ (ks ls : List ℕ) where
-  slots-drop : (a h : ℕ) → a ≤ h → drop a (slots ks ls h) ≡ slots ks ls (h - a)
-  unfolding slots
-  slots-drop zero h q = let e : h ≡ h - 0 = omega arith in ap (slots ks ls) e
-  slots-drop (suc a) zero q = absurd (omega arith)
-  slots-drop (suc a) (suc h) q = let e : h - a ≡ suc h - suc a = omega arith in slots-drop a h (omega arith) ∙ ap (slots ks ls) e
+    module _ {T₁ code₂ : List ℕ} {one : Walked} (bo : Walks text T₁ (take (size + (6 + a)) code₁) code₂ count (size + (6 + a) + length (part tree (6 + a) (length tree))) one (scope (typed-statement D (k .body)) (entries text T count))) where
+      pub cycle-body : {code′ : List ℕ} {c : Refusal} {q : ℕ} → one ≡ Refused c q → Walks text T₁ (take size code) code′ count (size + length tree) one (typed-statement C s (entries text T count))
+      cycle-body i = Outcomes.no-walks i (cycle-is ∙ rw (Outcomes.shows-ok te h) (rw (← ed) (rw (Outcomes.walks-no bo i))))
 
-  slots-set : (b x y h : ℕ) → h ≤ b → slots (set ks b x) (set ls b y) h ≡ slots ks ls h
-  unfolding slots
-  slots-set b x y zero q = refl
-  slots-set b x y (suc h) q =
-      rw (getD-set-other ks b h x 0 (λ z. omega arith), getD-set-other ls b h y 0 (λ z. omega arith), slots-set b x y h (omega arith))
+      module _ {m z : ℕ} (i : one ≡ On m z) (l₁ : length code₁ ≡ length code) (l₂ : length code₂ ≡ length code₁) where
+        pub record Cycle-ends : Type 0 where
+          pub test : a ≡ length (code-words (te .becomes))
+          pub body : size + (6 + a) ≤ z
+          pub last : z ≤ size + length tree
+          pub inside : z ≤ length code₂
 
-  slots-push : (b x y : ℕ) → b < length ks → b < length ls → slots (set ks b x) (set ls b y) (b + 1) ≡ (kind-of x, y) ∷ slots ks ls b
-  unfolding slots
-  slots-push b x y p q = rw (add-one b) (rw (getD-set-same ks b x 0 p, getD-set-same ls b y 0 q, slots-set b x y b (omega arith)))
+        pub cycle-ends : Cycle-ends
+        cycle-ends =
+            let rb = length-part tree (6 + a) (length tree) (k .long) (omega arith) in
+            let x = bo .on m z i in
+            let far : z ≤ size + length tree = omega (arith, x .room, k .long) in
+            record {
+              test = omega (arith, turn-long, long-of code code₁ (code-words (te .becomes)) (size + 6) (size + 6 + length (part tree 6 (6 + a))) (te .words j n u h) (omega (arith, turn-long, g .code-room, k .long)) (omega (arith, g .code-room, k .long)));
+              body = omega (arith, long-of code₁ code₂ (program-words (bo .program)) (size + (6 + a)) z (x .words) (omega (arith, g .code-room)) (omega (arith, g .code-room, k .long)));
+              last = far;
+              inside = omega (arith, g .code-room);
+            }
 
--- ---- the loop
--- The nodes from word i on, over a stack of height h: the first of them, and the others.
-pub record Here (text tree : List ℕ) (i h : ℕ) (rest : List Node) : Type 0 where
-  pub node : Node
-  pub others : List Node
-  pub is : rest ≡ node ∷ others
-  pub at : Node-at text tree i h node
-  pub then : drop (i + 3) tree ≡ nodes-words others
-  pub fits : Fits text others (h + 1 - arity node)
+        pub cycle-room : (size + 6 ≤ z) × (z ≤ length code₂) × (z ≤ 12288)
+        cycle-room = let d = cycle-ends in (omega (arith, d .body), d .inside, omega (arith, d .last, g .short))
 
-here : {text tree : List ℕ} {i h : ℕ} {rest : List Node} → drop i tree ≡ nodes-words rest → Fits text rest h → i < length tree → Here text tree i h rest
-unfolding nodes-words
-here {text} {tree} {i} e none l = absurd (omega (arith, length-drop i tree, ap length e))
-here {text} {tree} {i} {h} e (more {n} {l = r} s a b f) l = record {
-  node = n;
-  others = r;
-  is = refl;
-  at = record {
-    inside = omega (arith, length-drop i tree, ap length e);
-    is = record {
-      tag-is = sym (ap (λ w. getD w 0 0) e) ∙ getD-drop i tree 0 0 ∙ ap (λ j. getD tree j 0) (add-zero i);
-      first-is = sym (ap (λ w. getD w 1 0) e) ∙ getD-drop i tree 1 0;
-      second-is = sym (ap (λ w. getD w 2 0) e) ∙ getD-drop i tree 2 0;
-      spells = s;
-    };
-    operands = a;
-    fits = b;
+        pub cycle-ok : {code₃ : List ℕ} → take z code₃ ≡ take size code₂ ++ headed 21 (getD tree 1 0) (unit a 0 0) (part code₂ (size + 6) z)
+            → Walks text T₁ (take size code) code₃ count (size + length tree) (On m z) (typed-statement C s (entries text T count))
+        cycle-ok {code₃} w =
+            let d = cycle-ends in
+            let x = bo .on m z i in
+            let from : size + 6 + length (part tree 6 (6 + a)) ≡ size + (6 + a) = omega (arith, turn-long) in
+            let written = then (take (size + 6) code) (code-words (te .becomes)) (program-words (bo .program)) (rw from at (te .words j n u h)) (x .words) in
+            Outcomes.on-walks refl (cycle-is ∙ rw (Outcomes.shows-ok te h) (rw (← ed) (rw (Outcomes.walks-ok bo i)))) (record {
+              rows = x .rows;
+              more = x .more;
+              room = d .last;
+              words = cycle-words code code₂ code₃ size z (getD tree 1 0) (te .becomes) (bo .program) written (omega (arith, d .body)) (omega (arith, g .code-room, k .long)) (rw (d .test) at w);
+            })
+
+-- ---- `scalar`
+module _ {text tree T code kinds lengths : List ℕ} {count size r : ℕ} {s : Stmt} (g : Ready text tree T code kinds lengths 1 count size) (k : Alone text r tree s)
+    {T₁ code₁ : List ℕ} {one : Walked} (bo : Walks text T₁ (take (size + 3) code) code₁ count (size + 3 + length (part tree 3 (length tree))) one (scope (typed-statement 1 (k .body)) (entries text T count))) (C : ℕ) where
+  alone-is : typed-statement C s (entries text T count) ≡ after (scope (typed-statement 1 (k .body)) (entries text T count)) (λ x Θ. ok (alone x) Θ)
+  unfolding typed-statement
+  alone-is = rw (k .is)
+
+  pub alone-no : {code′ : List ℕ} {c : Refusal} {q : ℕ} → one ≡ Refused c q → Walks text T₁ (take size code) code′ count (size + length tree) one (typed-statement C s (entries text T count))
+  alone-no i = Outcomes.no-walks i (alone-is ∙ rw (Outcomes.walks-no bo i))
+
+  module _ {m z : ℕ} (i : one ≡ On m z) (l : length code₁ ≡ length code) where
+    far : z ≤ size + length tree
+    far = omega (arith, bo .on m z i .room, length-part tree 3 (length tree) (k .long) (omega arith), k .long)
+
+    pub alone-ends : (size + 3 ≤ z) × (z ≤ length code₁) × (z ≤ 12288)
+    alone-ends = (omega (arith, long-of code code₁ (program-words (bo .program)) (size + 3) z (bo .on m z i .words) (omega (arith, far, g .code-room)) (omega (arith, g .code-room, k .long))), omega (arith, far, g .code-room), omega (arith, far, g .short))
+
+    pub alone-ok : {code₂ : List ℕ} → code₂ ≡ sets code₁ size (unit 22 0 (z - (size + 3))) → Walks text T₁ (take size code) code₂ count (size + length tree) (On m z) (typed-statement C s (entries text T count))
+    unfolding program-words headed the numbered reserved words signs marks
+    alone-ok {code₂} w =
+        let d = alone-ends in
+        let x = bo .on m z i in
+        let v = program-words (bo .program) in
+        let long : z - (size + 3) ≡ 0 + length v = omega (arith, long-of code code₁ v (size + 3) z (x .words) (d .1) (omega (arith, g .code-room, k .long))) in
+        Outcomes.on-walks {P = alone (bo .program)} refl (alone-is ∙ rw (Outcomes.walks-ok bo i)) (record {
+          rows = x .rows;
+          more = x .more;
+          room = far;
+          words = rw (w, long) (unit-over code₁ size 22 0 (0 + length v) z (d .0) (d .1) ∙ rw (kept code code₁ v size 3 z (x .words) (d .0) (omega (arith, g .code-room, k .long)), inside code code₁ v size 3 z (x .words) (d .0) (omega (arith, g .code-room, k .long))));
+        })
+
+-- ---- a program
+pub ready-start : {text tree table code kinds lengths : List ℕ} → Lent text tree table code kinds lengths → Ready text tree table code kinds lengths 1 0 0
+unfolding end-of
+ready-start l = record {
+  rows = record {
+    short = l .short;
+    few = omega arith;
+    room = l .table-room;
+    names = λ i h. absurd (omega arith);
+    listed = λ i h. absurd (omega arith);
+    ends = λ i h. absurd (omega arith);
+    small = omega arith;
   };
-  then = sym (drop-drop 3 i tree) ∙ ap (drop 3) e;
-  fits = f;
+  listed = listed-one;
+  short = omega (arith, l .few);
+  code-room = omega (arith, l .code-room);
+  kinds-room = l .kinds-room;
+  lengths-room = l .lengths-room;
 }
 
--- Before word i the expression e was typed: the rest of the walk is that of the nodes from there on.
-pub record Going (text tree : List ℕ) (Γ : Declarations) (C : ℕ) (before code kinds lengths : List ℕ) (size i h : ℕ) (e : Expr) : Type 0 where
-  pub rest : List Node
-  pub from-here : drop i tree ≡ nodes-words rest
-  pub fits : Fits text rest h
-  pub on : run C (nodes e) (way [] before) Γ ≡ run C rest (way (slots kinds lengths h) (take (size + i) code)) Γ
+module _ {text tree T U code₀ code kinds lengths : List ℕ} {all : Walked} (g : Lent text tree T code₀ kinds lengths) (l : Stmts) (w : Walks text U (take 0 code₀) code 0 (0 + length tree) all (typed-statements 1 l (entries text T 0))) where
+  program-is : typed-program l ≡ typed-statements 1 l (entries text T 0)
+  unfolding typed-program entries
+  program-is = refl
 
-pub going-start : {text tree : List ℕ} {e : Expr} → Expression text tree e → (Γ : Declarations) (C : ℕ) (code kinds lengths : List ℕ) (size : ℕ) → Going text tree Γ C (take size code) code kinds lengths size 0 0 e
-unfolding slots
-going-start {text} {tree} {e} x Γ C code kinds lengths size = record {
-  rest = nodes e;
-  from-here = x .is ∙ flat-nodes e;
-  fits = rw (append-nil (nodes e)) at (fits-nodes (x .sound .names) 0 (omega (arith, x .sound .fits)) [] none);
-  on = rw (add-zero size);
-}
+  pub judge-no : {c : Refusal} {p : ℕ} {r : Judged} → all ≡ Refused c p → r ≡ refused-up all → Judges text U code l r
+  unfolding judged-out refused-up
+  judge-no q e = record {
+    program = nothing;
+    is = rw (e, q) (sym (program-is ∙ Outcomes.walks-no w q));
+    accepted = λ n m z x. absurd (let y : _≡_ {A = ℕ} 0 1 = cc in omega arith);
+  }
 
-module _ {S A B : Type 0} (f : A → B) where
-  pub after-refused : (o : Out S A) {c : Refusal} {p : ℕ} → after o (λ a s. ok (f a) s) ≡ refused c p → o ≡ refused c p
-  after-refused (ok a s) h = absurd (let z : _≡_ {A = ℕ} 0 1 = cc in omega arith)
-  after-refused (refused c p) h = cc
-
-  pub after-ok : (o : Out S A) {b : B} {s : S} → after o (λ a s. ok (f a) s) ≡ ok b s → (a : A) × (o ≡ ok a s) × (f a ≡ b)
-  after-ok (ok a s) h = (a, cc, cc)
-  after-ok (refused c p) h = absurd (let z : _≡_ {A = ℕ} 0 1 = cc in omega arith)
-
-module _ {text tree : List ℕ} {Γ : Declarations} {C : ℕ} {before code kinds lengths : List ℕ} {size i h : ℕ} {e : Expr} (g : Going text tree Γ C before code kinds lengths size i h e) where
-  pub going-here : i < length tree → Here text tree i h (g .rest)
-  going-here l = here (g .from-here) (g .fits) l
-
-  module _ {r : Typing} (x : Here text tree i h (g .rest)) (s : Steps C (x .node) (slots kinds lengths h) Γ r) where
-    stepped : run C (nodes e) (way [] before) Γ ≡ after (entry-out r Γ) (λ y Δ. run C (x .others) (pushed (x .node) y (way (slots kinds lengths h) (take (size + i) code))) Δ)
-    unfolding run
-    stepped = g .on ∙ rw (x .is) (rw (s .is))
-
-    pub going-refused : {c : Refusal} {p : ℕ} (code′ : List ℕ) (end : ℕ) → r ≡ Refused c p → Shows before code′ end Γ r (typed C e Γ)
-    unfolding entry-out typed-out
-    going-refused {c} {p} code′ end q = record {
-      becomes = constant 0;
-      is = rw q (sym (after-refused (λ a. entered a (way [] before)) (typed C e Γ) (sym (walked C e (way [] before) Γ) ∙ stepped ∙ rw q)));
-      words = λ k n w z. absurd (let y : _≡_ {A = ℕ} 0 1 = cc in omega arith);
-    }
-
-    pub going-next : {k : Kind} {n w t z b : ℕ} → r ≡ Typed k n w → t ≡ code-tag (x .node) → z ≡ code-place (x .node) → b ≡ h - arity (x .node) → size + i + 3 ≤ length code → h + 1 - arity (x .node) ≤ length kinds → h + 1 - arity (x .node) ≤ length lengths
-        → Going text tree Γ C before (sets code (size + i) (unit t w z)) (set kinds b (kind-number k)) (set lengths b n) size (i + 3) (b + 1) e
-    unfolding entry-out
-    going-next {k} {n} {w} {t} {z} {b} q et ez eb room rk rl = record {
-      rest = x .others;
-      from-here = x .then;
-      fits = rw up (x .fits);
-      on = stepped ∙ rw (q, slots-drop kinds lengths (arity (x .node)) h (x .at .operands), ← eb, ← et, ← ez)
-          (rw (slots-push kinds lengths b (kind-number k) n (omega arith) (omega arith), kind-back k, written));
-    }
-      where
-        up : b + 1 ≡ h + 1 - arity (x .node)
-        up = omega (arith, x .at .operands)
-
-        three : size + (i + 3) ≡ size + i + 3
-        three = omega arith
-
-        written : take (size + (i + 3)) (sets code (size + i) (unit t w z)) ≡ take (size + i) code ++ unit t w z
-        written = rw (three, sets-eq (unit t w z) code (size + i) room)
-            (take-at (take (size + i) code ++ unit t w z) (drop (size + i + 3) code) (size + i + 3)
-            (length-append (take (size + i) code) (unit t w z) ∙ rw (length-take-le (size + i) code (omega arith))))
-
-  ended : length tree ≤ i → run C (nodes e) (way [] before) Γ ≡ ok (way (slots kinds lengths h) (take (size + i) code)) Γ
-  unfolding run nodes-words
-  ended l = go (g .rest) (g .from-here) (g .on)
-    where
-      go : (m : List Node) → drop i tree ≡ nodes-words m → run C (nodes e) (way [] before) Γ ≡ run C m (way (slots kinds lengths h) (take (size + i) code)) Γ → run C (nodes e) (way [] before) Γ ≡ ok (way (slots kinds lengths h) (take (size + i) code)) Γ
-      go [] q o = o
-      go (n ∷ m) q o = absurd (omega (arith, length-drop i tree, ap length q))
-
-  pub going-end : i ≡ length tree → {k : Kind} {n : ℕ} (w : ℕ) → k ≡ kind-of (getD kinds 0 0) → n ≡ getD lengths 0 0 → Shows before code (size + length tree) Γ (Typed k n w) (typed C e Γ)
-  unfolding typed-out slots
-  going-end l {k} {n} w ek en =
-      let a = after-ok (λ a. entered a (way [] before)) (typed C e Γ) (sym (walked C e (way [] before) Γ) ∙ ended (omega arith)) in
-      let s : ((a .0) .kind, (a .0) .lanes) ∷ [] ≡ slots kinds lengths h = ap (λ v. v .on) (a .2) in
-      let top = only h s in
-      record {
-        becomes = (a .0) .code;
-        is = rw (ek, en, ← top .0, ← top .1) (sym (a .1));
-        words = λ _ _ _ _. ap (λ j. take (size + j) code) (sym l) ∙ sym (ap (λ v. v .words) (a .2));
-      }
-    where
-      only : {b : Kind} {m : ℕ} (h : ℕ) → (b, m) ∷ [] ≡ slots kinds lengths h → (b ≡ kind-of (getD kinds 0 0)) × (m ≡ getD lengths 0 0)
-      only zero q = absurd (omega (arith, ap length q))
-      only {b} {m} (suc zero) q = let p : _≡_ {A = Slot} (b, m) (kind-of (getD kinds 0 0), getD lengths 0 0) = cc in (ap (λ s. s .0) p, ap (λ s. s .1) p)
-      only (suc (suc h)) q = absurd (omega (arith, ap length q))
-
-pub limit : stack-limit ≡ 232
-unfolding stack-limit nesting-limit
-limit = refl
-
--- ---- the loop, for every expression that the words may be of
-pub record Walking (text tree table : List ℕ) (count C size : ℕ) (code₀ kinds₀ lengths₀ code kinds lengths : List ℕ) (i h : ℕ) : Type 0 where
-  pub ready : Ready text tree table code₀ kinds₀ lengths₀ C count size
-  pub some : There-is (Expression text tree)
-  pub code-long : length code ≡ length code₀
-  pub kinds-long : length kinds ≡ length kinds₀
-  pub lengths-long : length lengths ≡ length lengths₀
-  pub inside : i ≤ length tree
-  pub high : h ≤ stack-limit
-  pub on : (e : Expr) → Expression text tree e → Going text tree (entries text table count) C (take size code₀) code kinds lengths size i h e
-
-pub walking-start : {text tree table code kinds lengths : List ℕ} {C count size : ℕ} → Ready text tree table code kinds lengths C count size → There-is (Expression text tree)
-    → Walking text tree table count C size code kinds lengths code kinds lengths 0 0
-walking-start r s = record {
-  ready = r;
-  some = s;
-  code-long = refl;
-  kinds-long = refl;
-  lengths-long = refl;
-  inside = omega arith;
-  high = omega arith;
-  on = λ e x. going-start x _ _ _ _ _ _;
-}
-
--- What is left in the buffers for a node that takes a operands.
-pub record Room (tree code kinds lengths : List ℕ) (size i h a : ℕ) : Type 0 where
-  pub words : i + 3 ≤ length tree
-  pub unit : size + i + 3 ≤ length code
-  pub operands : a ≤ h
-  pub kind : h - a < length kinds
-  pub lanes : h - a < length lengths
-  pub high : h - a + 1 ≤ stack-limit
-
-module _ {text tree table : List ℕ} {count C size : ℕ} {code₀ kinds₀ lengths₀ code kinds lengths : List ℕ} {i h : ℕ} (g : Walking text tree table count C size code₀ kinds₀ lengths₀ code kinds lengths i h) where
-  pub walking-end : i ≡ length tree → {k : Kind} {n : ℕ} (w : ℕ) → k ≡ kind-of (getD kinds 0 0) → n ≡ getD lengths 0 0
-      → (e : Expr) → Expression text tree e → Shows (take size code₀) code (size + length tree) (entries text table count) (Typed k n w) (typed C e (entries text table count))
-  walking-end l w ek en e x = going-end (g .on e x) l w ek en
-
-  module _ (l : i < length tree) where
-    its : There-is (Node-at text tree i h)
-    its = let x = going-here (g .on (g .some .the) (g .some .is)) l in record { the = x .node; is = x .at }
-
-    pub walking-node : There-is (Node-at text tree i h)
-    walking-node = its
-
-    pub walking-place : size + i + 3 ≤ length code
-    walking-place = omega (arith, its .is .inside, g .ready .code-room, g .code-long)
-
-    pub walking-room : {a : ℕ} → ((n : Node) → node-tag n ≡ getD tree i 0 → a ≡ arity n) → Room tree code kinds lengths size i h a
-    walking-room {a} f =
-        let n = its in
-        let q = f (n .the) (n .is .is .tag-is) in
-        record {
-          words = n .is .inside;
-          unit = walking-place;
-          operands = omega (arith, n .is .operands);
-          kind = omega (arith, n .is .operands, n .is .fits, g .ready .kinds-room, g .kinds-long);
-          lanes = omega (arith, n .is .operands, n .is .fits, g .ready .lengths-room, g .lengths-long);
-          high = omega (arith, n .is .operands, n .is .fits);
-        }
-
-    module _ {r : Typing} (s : (n : Node) → Node-at text tree i h n → Steps C n (slots kinds lengths h) (entries text table count) r) where
-      pub walking-refused : {c : Refusal} {p : ℕ} (code′ : List ℕ) → r ≡ Refused c p
-          → (e : Expr) → Expression text tree e → Shows (take size code₀) code′ (size + length tree) (entries text table count) r (typed C e (entries text table count))
-      walking-refused code′ q e x = let y = going-here (g .on e x) l in going-refused (g .on e x) y (s (y .node) (y .at)) code′ (size + length tree) q
-
-      pub walking-next : {k : Kind} {n w t z a : ℕ} {code′ : List ℕ} → r ≡ Typed k n w → ((m : Node) → node-tag m ≡ getD tree i 0 → t ≡ code-tag m)
-          → ((m : Node) → node-tag m ≡ getD tree i 0 → node-first m ≡ getD tree (i + 1) 0 → z ≡ code-place m) → ((m : Node) → node-tag m ≡ getD tree i 0 → a ≡ arity m)
-          → code′ ≡ sets code (size + i) (unit t w z)
-          → Walking text tree table count C size code₀ kinds₀ lengths₀ code′ (set kinds (h - a) (kind-number k)) (set lengths (h - a) n) (i + 3) (h - a + 1)
-      walking-next {k} {n} {w} {t} {z} {a} {code′} q ft fz fa ec =
-          let m = walking-room fa in
-          record {
-            ready = g .ready;
-            some = g .some;
-            code-long = rw ec (length-sets code (size + i) (unit t w z) ∙ g .code-long);
-            kinds-long = length-set kinds (h - a) (kind-number k) ∙ g .kinds-long;
-            lengths-long = length-set lengths (h - a) n ∙ g .lengths-long;
-            inside = m .words;
-            high = m .high;
-            on = λ e x.
-                let y = going-here (g .on e x) l in
-                let ea = fa (y .node) (y .at .is .tag-is) in
-                rw ec (going-next (g .on e x) y (s (y .node) (y .at)) q (ft (y .node) (y .at .is .tag-is)) (fz (y .node) (y .at .is .tag-is) (y .at .is .first-is)) (ap (λ b. h - b) ea) (m .unit) (omega (arith, m .kind, m .operands)) (omega (arith, m .lanes, m .operands)));
-          }
+  pub judge-ok : {n m z : ℕ} → all ≡ On n z → m ≡ need (entries text U n) → length code ≡ length code₀ → Judges text U code l (judged.Accepted n m z)
+  unfolding judged-out
+  judge-ok {n} {m} {z} q e same = record {
+    program = w .program;
+    is = sym (program-is ∙ Outcomes.walks-ok w q);
+    accepted = λ i j k x.
+        let a : n ≡ i = cc in
+        let b : m ≡ j = cc in
+        let c : z ≡ k = cc in
+        rw (← a, ← b, ← c) (record { needs = e; rows = w .on n z q .rows; fits = omega (arith, w .on n z q .room, g .code-room); words = w .on n z q .words });
+  }

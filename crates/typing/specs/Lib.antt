@@ -1,3 +1,2 @@
-pub mod Rows
-pub mod Nodes
+pub mod Shapes
 pub mod Answers

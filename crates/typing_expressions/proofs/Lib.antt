@@ -1,0 +1,5 @@
+pub mod Tags
+pub mod Names
+pub mod Tables
+pub mod Walk
+pub mod Steps

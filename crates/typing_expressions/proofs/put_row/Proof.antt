@@ -1,0 +1,52 @@
+-- `typing_expressions::put_row` meets its contract. Assumes nothing.
+use native.Mathlib.Omega.{arith}
+use borrow.Author.Needs.{needs}
+use Rattle.typing_expressions.proofs.Tables.{added}
+use Rattle.typing_expressions.proofs.put_row.Statement.{statement}
+use Rattle.typing_expressions.proofs.put_row.Tie as tie
+
+mul-put-unit : tie.Need-mul-put-unit
+mul-put-unit c = search needs
+
+cast-put-unit : tie.Need-cast-put-unit
+cast-put-unit c = search needs
+
+cast-put-unit-2 : tie.Need-cast-put-unit-2
+cast-put-unit-2 c = search needs
+
+kind-number-requires : tie.Need-kind-number-requires
+kind-number-requires c κs = search needs
+
+put-unit-requires : tie.Need-put-unit-requires
+put-unit-requires c κs = search needs
+
+mul-put-unit-2 : tie.Need-mul-put-unit-2
+mul-put-unit-2 c = search needs
+
+add-put-unit : tie.Need-add-put-unit
+add-put-unit c = search needs
+
+put-unit-requires-2 : tie.Need-put-unit-requires-2
+put-unit-requires-2 c κs = search needs
+
+same-length : tie.Need-same-length
+same-length c = search needs
+
+returns : tie.Need-returns
+returns c = let s = c .before .before .before .before .before .before .before .before .before .before .args in
+    rw (c .before .before .put-unit2 .ensures, c .before .before .before .before .before .before .put-unit .ensures, c .before .before .before .before .before .before .before .kind-number .ensures) (added (s .table .now) (s .i) (s .place) (s .end) _ (s .lanes) (s .address) (omega arith))
+
+pub put-row-spec : {M : Type 1} → statement M
+put-row-spec =
+    tie.close
+    (tie.spec
+    mul-put-unit
+    cast-put-unit
+    cast-put-unit-2
+    kind-number-requires
+    put-unit-requires
+    mul-put-unit-2
+    add-put-unit
+    put-unit-requires-2
+    same-length
+    returns)

@@ -1,0 +1,20 @@
+-- `typing_expressions::unary_takes` meets its contract. Assumes nothing.
+use borrow.Author.Needs.{needs}
+use Rattle.typing_expressions.proofs.Tags.{unary-ints, unary-bools}
+use Rattle.typing_expressions.proofs.unary_takes.Statement.{statement}
+use Rattle.typing_expressions.proofs.unary_takes.Tie as tie
+
+enum-told : tie.Need-enum-told
+enum-told c = search needs
+
+enum-told-2 : tie.Need-enum-told-2
+enum-told-2 c = search needs
+
+returns : tie.Need-returns
+returns c = λ o h. rw (c .enum-told .given .1, ← h) (unary-ints o)
+
+returns-2 : tie.Need-returns-2
+returns-2 c = λ o h. rw (c .enum-told2 .given .1, ← h) (unary-bools o)
+
+pub unary-takes-spec : {M : Type 1} → statement M
+unary-takes-spec = tie.close (tie.spec enum-told enum-told-2 returns returns-2)

@@ -1,0 +1,14 @@
+-- `typing_simple::kind_named` meets its contract. Assumes nothing.
+use mathlib.Core.Path.{_∙_, sym}
+use Rattle.typing_simple.proofs.Shapes.{named-int, named-bool}
+use Rattle.typing_simple.proofs.kind_named.Statement.{statement}
+use Rattle.typing_simple.proofs.kind_named.Tie as tie
+
+returns : tie.Need-returns
+returns c = λ k h. named-int k (h ∙ c .if1 .taken)
+
+returns-2 : tie.Need-returns-2
+returns-2 c = λ k h. named-bool k (λ z. c .if1 .left (sym h ∙ z))
+
+pub kind-named-spec : {M : Type 1} → statement M
+kind-named-spec = tie.close (tie.spec returns returns-2)
