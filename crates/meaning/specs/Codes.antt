@@ -1,6 +1,6 @@
 -- Document 01, "Codes": the refusals with their numbers, the limits, and how "the first refusal met ends the reading".
 use Prim.Native.Nat.{ℕ, zero, suc}
-use mathlib.Core.Bool.{Bool, true, false, _||_}
+use mathlib.Core.Bool.{Bool, true, false, not, _||_}
 use mathlib.Core.List.{List, [], _∷_}
 use mathlib.Core.Option.{Option, none, some}
 use lib.Dec.{eqb}
@@ -24,28 +24,32 @@ code MemoryTooShort = 12
 code BudgetSpent = 13
 
 -- The text: "At most 4,096 bytes."
-unfoldable pub text-limit : ℕ
+abbrev pub text-limit : ℕ
 text-limit = 4096
 
 -- A name: "at most 31 bytes".
-unfoldable pub name-limit : ℕ
+abbrev pub name-limit : ℕ
 name-limit = 31
 
 -- A number: "0 to 2147483647".
-unfoldable pub number-limit : ℕ
+abbrev pub number-limit : ℕ
 number-limit = 2147483647
 
 -- Nesting: "The limit is 32."
-unfoldable pub nesting-limit : ℕ
+abbrev pub nesting-limit : ℕ
 nesting-limit = 32
 
 -- The "65th declaration" is refused.
-unfoldable pub declaration-limit : ℕ
+abbrev pub declaration-limit : ℕ
 declaration-limit = 64
 
 -- "N is 1, 2, 4, 8 or 16".
 unfoldable pub lengths : List ℕ
 lengths = 1 ∷ 2 ∷ 4 ∷ 8 ∷ 16 ∷ []
+
+-- The refusals of a run that are not the judge's: "Judge gives 0 to 11".
+unfoldable pub only-a-run-gives : List ℕ
+only-a-run-gives = code MemoryTooShort ∷ code BudgetSpent ∷ []
 
 -- What one act of reading or typing ends in: a value and the state after it, or a refusal and its place.
 pub data Out (S A : Type 0) : Type 0 where
@@ -109,3 +113,7 @@ _among_ n (m ∷ l) = eqb n m || n among l
 abbrev pub repeat : {S A : Type 0} → ℕ → (A → Doing S (Option A)) → A → Doing S A
 repeat zero turn a = give a
 repeat (suc k) turn a = turn a >>= option (give a) (λ a′. repeat k turn a′)
+
+-- Is a code one that the judge gives?
+unfoldable pub the-judge-gives : ℕ → Bool
+the-judge-gives c = not (c among only-a-run-gives)

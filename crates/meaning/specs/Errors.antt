@@ -1,13 +1,11 @@
--- Document 01, "Errors that come easily": a run for each that the starred cases leave open, under one theorem.
-use mathlib.Core.Path.{_≡_, refl}
-use mathlib.Core.List.{List, [], _∷_, _++_, map}
+-- Document 01, "Errors that come easily": a run for each that the starred cases leave open. That every row holds is the theorem of
+-- proofs/Errors.antt.
+use mathlib.Core.List.{List, [], _∷_, _++_}
 use Prim.Native.Nat.{ℕ}
 use Prim.Native.String.{String}
 use lib.ListN.{replicate}
-use Rattle.meaning.specs.Tokens.{bytes}
-use Rattle.meaning.specs.Memory.{Memory, little-endian}
-use Rattle.meaning.specs.Services.{answer, judge, run}
-use Rattle.meaning.specs.Table.{Row, _over_for_gives_leaves_, _gets_at_, ints, judged-as, found, expected}
+use Rattle.meaning.specs.Memory.{Memory}
+use Rattle.meaning.specs.Table.{Row, _over_for_gives_leaves_, _gets_at_, ints}
 
 -- Document 01's routine, and its memory: `ok`, `s` and `t`.
 unfoldable pub routine : String
@@ -27,8 +25,3 @@ errors =
     ∷ "int block[2] n; int c = 0; while (0 < n) { n = n - 1; scalar { c = c + 1; if (c == 2) n = n + 1; else ; } }" over ints (1 ∷ 3 ∷ 9 ∷ []) for 1000 gives (0, 0, 12, 23) leaves ints (1 ∷ 0 ∷ 4 ∷ [])
     ∷ "int x = x;" gets 5 at 8
     ∷ []
-
--- Every row holds.
-pub none-is-made : map found errors ≡ map expected errors
-unfolding found expected judged-as routine samples errors _over_for_gives_leaves_ _gets_at_ ints bytes little-endian run judge answer
-none-is-made = refl

@@ -1,7 +1,8 @@
 -- What typing makes of a tree: a name is the number of its declaration, and an operator has its place and the kind of its operands.
 use Prim.Native.Nat.{ℕ}
 use Rattle.meaning.specs.declared.Kind.{Kind}
-use Rattle.meaning.specs.Tree.{Unary, Binary}
+use Rattle.meaning.specs.declared.Unary.{Unary}
+use Rattle.meaning.specs.declared.Binary.{Binary}
 
 -- An expression; a constant is its lane (`true` is 1).
 pub data Code : Type 0 where

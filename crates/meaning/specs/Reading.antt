@@ -10,7 +10,9 @@ use Rattle.meaning.specs.declared.Kind.{Kind}
 use Rattle.meaning.specs.declared.Refusal.the-variants.{NotAllowed, TooDeep}
 use Rattle.meaning.specs.Codes.{Out, ok, Doing, _>>=_, _>>_, give, refuse, check, repeat, option, lookup, if_then_else_, _among_, nesting-limit}
 use Rattle.meaning.specs.Tokens.{Token, end-at, the, words, marks, numbered, reserved, signs}
-use Rattle.meaning.specs.Tree.{kinds, neg, inv, not, Binary, table, unary-table, levels, Expr, number, boolean, name, current-mask, unary, binary, Block, Stmt, empty, braces, declare, assign, if-else, while, scalar, Stmts, none-yet, _⨾_}
+use Rattle.meaning.specs.declared.Unary.the-variants.{Neg as neg, Inv as inv, Not as not}
+use Rattle.meaning.specs.declared.Binary.{Binary}
+use Rattle.meaning.specs.Tree.{kinds, table, unary-table, levels, Expr, number, boolean, name, current-mask, unary, binary, Block, Stmt, empty, braces, declare, assign, if-else, while, scalar, Stmts, none-yet, _⨾_}
 
 -- Reading goes on from a position in the list of tokens.
 abbrev pub Reads : Type 0 → Type 0
@@ -162,5 +164,5 @@ module _ (ts : List Token) where
 
   -- "A program is a sequence of statements, perhaps empty." "The limit is 32."
   unfoldable pub read : Out ℕ Stmts
-  unfolding end-at the words marks numbered reserved signs kinds table unary-table levels operator _⇒_ look next choose expect as-long more binaries operand no-room closed unaries expression parenthesised block declaration assignment condition opening another sequence statement-over statement begins nesting-limit
+  unfolding end-at the words marks numbered reserved signs kinds table unary-table levels operator _⇒_ look next choose expect as-long more binaries operand no-room closed unaries expression parenthesised block declaration assignment condition opening another sequence statement-over statement begins
   read = sequence "end" (statement nesting-limit) 0

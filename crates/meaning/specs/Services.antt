@@ -1,5 +1,6 @@
 -- Document 01, "What is built": judge, run and the listing of variables, from bytes to numbers and bytes.
-use Prim.Native.Nat.{ℕ, _-_}
+use Prim.Native.Nat.{ℕ, _*_, _-_}
+use mathlib.Core.Path.{_≡_}
 use mathlib.Core.Bool.{true}
 use mathlib.Core.List.{List, [], _∷_, _++_}
 use lib.Dec.{leb}
@@ -13,7 +14,7 @@ use Rattle.meaning.specs.Program.{Code, Program}
 use Rattle.meaning.specs.Typing.{typed-program}
 use Rattle.meaning.specs.Memory.{Memory, Value, Mask, Declarations, little-endian, need, fetch, update}
 use Rattle.meaning.specs.Running as R
-use Rattle.meaning.specs.Running.{Ran, stopped, done, Event, passes, stores, value}
+use Rattle.meaning.specs.Running.{Ran, stopped, done, Run, Event, passes, stores, value}
 
 -- "Each answers four numbers: code, place (a byte offset in the text), need (bytes of memory), steps."
 pub record Answer : Type 0 where
@@ -61,22 +62,28 @@ unfoldable pub ended : ℕ → ℕ → Ran Memory → Answer × Memory
 ended n budget (stopped c p M left) = (answer (code c) p n (budget - left), M)
 ended n budget (done M left) = (answer 0 0 n (budget - left), M)
 
--- "Code 12: need given, steps 0. In all of these the memory keeps every byte." "The mask starts as one true lane."
-unfoldable pub executed : Memory → ℕ → Out Declarations Program → Answer × Memory
-executed M budget (refused c p) = (answer (code c) p 0 0, M)
-executed M budget (ok P Γ) =
+-- The run of a typed program over bytes.
+abbrev pub program-run : Declarations → Program → Run Memory
+program-run Γ P = R.run (evaluate Γ) (effect Γ) P
+
+-- "Code 12: need given, steps 0. In all of these the memory keeps every byte." "The mask starts as one true lane." `by` runs an
+-- accepted program.
+unfoldable pub executed : (Declarations → Program → Run Memory) → Memory → ℕ → Out Declarations Program → Answer × Memory
+executed by M budget (refused c p) = (answer (code c) p 0 0, M)
+executed by M budget (ok P Γ) =
     if leb (need Γ) (length M)
-    then (λ _. ended (need Γ) budget (R.run (evaluate Γ) (effect Γ) P (true ∷ []) budget M))
+    then (λ _. ended (need Γ) budget (by Γ P (true ∷ []) budget M))
     else λ _. (answer (code MemoryTooShort) 0 (need Γ) 0, M)
 
 -- "Run takes a text, a lent byte memory and a budget .., judges the text itself, then executes over that memory."
 unfoldable pub run : List ℕ → Memory → ℕ → Answer × Memory
 unfolding judged executed ended answer need evaluate effect value fetch update R.run
-run text M budget = executed M budget (judged text)
+run text M budget = executed program-run M budget (judged text)
 
--- Four numbers as "32-bit little-endian numbers".
-unfoldable pub sixteen : ℕ → ℕ → ℕ → ℕ → List ℕ
-sixteen a b c d = little-endian 4 a ++ little-endian 4 b ++ little-endian 4 c ++ little-endian 4 d
+-- Numbers in a row, each as a "32-bit little-endian" number.
+unfoldable pub in-a-row : List ℕ → List ℕ
+in-a-row [] = []
+in-a-row (n ∷ l) = little-endian 4 n ++ in-a-row l
 
 -- Where the variables lie, for the collector: a table with a record of 16 bytes for a declaration, the place of its name, its kind,
 -- length and address; as many as fit whole. Its other bytes stay.
@@ -84,7 +91,7 @@ unfoldable pub listed : Declarations → List ℕ → List ℕ
 listed [] l = l
 listed (d ∷ Γ) l =
     if leb 16 (length l)
-    then (λ _. sixteen (d .place) (kind-number (d .kind)) (d .lanes) (d .address) ++ listed Γ (drop 16 l))
+    then (λ _. in-a-row (d .place ∷ kind-number (d .kind) ∷ d .lanes ∷ d .address ∷ []) ++ listed Γ (drop 16 l))
     else λ _. l
 
 -- The table after the listing of a text: of a refused text it stays.
@@ -102,20 +109,34 @@ pub record Called (A : Type 0) : Type 0 where
   pub slice : List ℕ
   pub lent : A
 
--- "code, place, need, steps are written as four 32-bit little-endian numbers; bytes after the 16th stay. The call then
--- returns 1. A shorter answer slice returns 0 and nothing else happens."
-unfoldable pub called : {A : Type 0} → List ℕ → A → Answer × A → Called A
-called slice lent (a, after) =
-    if leb 16 (length slice)
-    then (λ _. record { returns = 1; slice = sixteen (a .code) (a .place) (a .need) (a .steps) ++ drop 16 slice; lent = after })
+-- The numbers of an answer, in the order in which they are written.
+unfoldable pub numbers : Answer → List ℕ
+numbers a = a .code ∷ a .place ∷ a .need ∷ a .steps ∷ []
+
+-- A slice with numbers written into its first bytes: "bytes after the 16th stay".
+unfoldable pub with-numbers : List ℕ → List ℕ → List ℕ
+with-numbers l slice = in-a-row l ++ drop (4 * length l) slice
+
+-- "code, place, need, steps are written as four 32-bit little-endian numbers .. The call then returns 1. A shorter answer slice
+-- returns 0 and nothing else happens."
+unfoldable pub called : {A : Type 0} → List ℕ → A → List ℕ × A → Called A
+called slice lent (l, after) =
+    if leb (4 * length l) (length slice)
+    then (λ _. record { returns = 1; slice = with-numbers l slice; lent = after })
     else λ _. record { returns = 0; slice = slice; lent = lent }
 
 -- The three services as they are called.
 unfoldable pub judge-call : List ℕ → List ℕ → Called (Unit {0})
-judge-call text slice = called slice tt (judge text, tt)
+judge-call text slice = called slice tt (numbers (judge text), tt)
 
 unfoldable pub run-call : List ℕ → Memory → ℕ → List ℕ → Called Memory
-run-call text M budget slice = called slice M (run text M budget)
+run-call text M budget slice = let o = run text M budget in called slice M (numbers (o .0), o .1)
 
 unfoldable pub variables-call : List ℕ → List ℕ → List ℕ → Called (List ℕ)
-variables-call text table slice = called slice table (variables text table)
+variables-call text table slice = let o = variables text table in called slice table (numbers (o .0), o .1)
+
+-- A call kept its promise: what it returned, the answer slice and what was lent are the definition's.
+pub record Kept {A : Type 0} (by : Called A) (returned : ℕ) (slice : List ℕ) (lent : A) : Type 0 where
+  pub returns : returned ≡ by .returns
+  pub slice-is : slice ≡ by .slice
+  pub lent-is : lent ≡ by .lent

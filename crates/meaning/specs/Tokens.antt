@@ -146,5 +146,5 @@ tokens text = (do
 
 -- "At most 4,096 bytes." "Order: 1; then 2 over the whole text".
 unfoldable pub lexed : List ℕ → Out ℕ (List Token)
-unfolding bytes reserved signs numbered words marks the end-at space digit letter letter-or-digit in-line run-of starts equal decimal good-number word digits sign piece turn tokens text-limit name-limit number-limit
+unfolding bytes reserved signs numbered words marks the end-at space digit letter letter-or-digit in-line run-of starts equal decimal good-number word digits sign piece turn tokens
 lexed text = if leb (length text) text-limit then (λ _. tokens text) else λ _. refused TextTooLong 0

@@ -7,6 +7,10 @@ use mathlib.Core.Option.{Option, none, some}
 use lib.Dec.{eqb}
 use Rattle.meaning.specs.declared.Kind.{Kind}
 use Rattle.meaning.specs.declared.Kind.the-variants.{Int as int, Bool as bool}
+use Rattle.meaning.specs.declared.Unary.{Unary}
+use Rattle.meaning.specs.declared.Unary.the-variants.{Neg as neg, Inv as inv, Not as not}
+use Rattle.meaning.specs.declared.Binary.{Binary}
+use Rattle.meaning.specs.declared.Binary.the-variants.{Or as or, Xor as xor, And as and, Eq as eq, Ne as ne, Lt as lt, Gt as gt, Le as le, Ge as ge, Add as add, Sub as sub, Mul as mul}
 use Rattle.meaning.specs.Codes.{option}
 
 -- The bytes of a name.
@@ -31,14 +35,6 @@ infix 40 _one-of_
 unfoldable pub _one-of_ : Kind → List Kind → Bool
 _one-of_ k [] = false
 _one-of_ k (l ∷ ks) = same-kind k l || k one-of ks
-
--- "unary `-` `~` `!`"
-pub data Unary : Type 0 where
-  neg inv not : Unary
-
--- The other operators: `| ^ & == != < > <= >= + - *`.
-pub data Binary : Type 0 where
-  or xor and eq ne lt gt le ge add sub mul : Binary
 
 -- What it gives: "Comparisons give bool, the others their operands' kind."
 pub data Gives : Type 0 where

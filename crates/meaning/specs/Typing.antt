@@ -77,6 +77,14 @@ typed C (binary p o e e′) = do
   check (match (a .lanes) (b .lanes)) WrongLength p
   give (record { code = two p (a .kind) o (a .code) (b .code); kind = gives-kind ((table o) .2) (a .kind); lanes = joined (a .lanes) (b .lanes) })
 
+-- The length of a typed expression's value, in a context of C lanes.
+unfoldable pub width : Declarations → ℕ → Code → ℕ
+width Γ C (constant n) = 1
+width Γ C (variable x) = (declared Γ x) .lanes
+width Γ C the-mask = C
+width Γ C (one p k o a) = width Γ C a
+width Γ C (two p k o a b) = joined (width Γ C a) (width Γ C b)
+
 -- "A condition: its expression, then 8." "A condition is bool."
 unfoldable pub typed-condition : ℕ → ℕ → Expr → Types Typed
 typed-condition C p e = do a ← typed C e; check (same-kind (a .kind) bool) WrongKind p; give a
@@ -160,5 +168,5 @@ unfoldable mutual
 
 -- "The context length C is 1 at the start."
 unfoldable pub typed-program : Stmts → Out Declarations Program
-unfolding lengths declaration-limit equal starts table unary-table declared whole next-multiple need bit size kind-number same-kind _one-of_ accepts gives-kind match joined fits find variable-named typed typed-condition storable with-one declare-name good-block lanes-or typed-declaration shut scope typed-statement
+unfolding lengths equal starts table unary-table declared whole next-multiple need bit size kind-number same-kind _one-of_ accepts gives-kind match joined fits find variable-named typed typed-condition storable with-one declare-name good-block lanes-or typed-declaration shut scope typed-statement
 typed-program l = typed-statements 1 l []

@@ -1,4 +1,4 @@
-// What the definitions and the code name alike: the kinds and the refusals of document 01.
+// What the definitions and the code name alike: the kinds, the operators and the refusals of document 01.
 ghost use mathlib.Core.Path.{_≡_};
 ghost use Rattle.meaning.specs.Codes.{code};
 
@@ -6,6 +6,29 @@ ghost use Rattle.meaning.specs.Codes.{code};
 pub enum Kind {
     Int,
     Bool,
+}
+
+// "unary `-` `~` `!`".
+pub enum Unary {
+    Neg,
+    Inv,
+    Not,
+}
+
+// The other operators: `| ^ & == != < > <= >= + - *`.
+pub enum Binary {
+    Or,
+    Xor,
+    And,
+    Eq,
+    Ne,
+    Lt,
+    Gt,
+    Le,
+    Ge,
+    Add,
+    Sub,
+    Mul,
 }
 
 // Why a text is not run to its end: the table of "Codes", in its order.
