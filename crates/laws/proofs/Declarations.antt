@@ -1,0 +1,192 @@
+-- Declarations keep their order as they are made and as their scopes are closed: listed lengths, addresses of their own, ends before need.
+use Prim.Native.Nat.{ℕ, zero, suc, _+_, _*_, _≤_, _<_}
+use mathlib.Core.Path.{_≡_, refl, ap}
+use mathlib.Core.Logic.{⊎-elim}
+use mathlib.Core.Bool.{Bool, true, false, _||_, false≢true}
+use mathlib.Core.List.{List, [], _∷_, _++_}
+use native.Mathlib.Omega.{arith}
+use native.Mathlib.Nat.{eq-or-lt-of-le}
+use lib.Dec.{eqb}
+use lib.ListN.{length, length-append, List·getD-append}
+use lib.Seq.{getD-at}
+use borrow.Author.Tests.{eqb-true}
+use Rattle.meaning.specs.declared.Kind.{Kind}
+use Rattle.meaning.specs.declared.Kind.the-variants.{Int as int, Bool as bool}
+use Rattle.meaning.specs.Codes.{lengths, declaration-limit}
+use Rattle.meaning.specs.Tree.{Name}
+use Rattle.meaning.specs.Memory.{Declared, Declarations, declared, whole, size, next-multiple, need}
+use Rattle.meaning.specs.Typing.{with-one, shut}
+use Rattle.laws.specs.Sound.{Spelled, Laid}
+use Rattle.laws.specs.Declarations.{end-of, Listed, Ordered, closing, Alike, none-yet, both-more, Grows}
+
+-- A length of the list is one of five.
+pub by-length : (P : ℕ → Type 0) (n : ℕ) → Listed n → P 1 → P 2 → P 4 → P 8 → P 16 → P n
+unfolding lengths
+by-length P n h a b c d e = go (eqb n 1) refl (eqb n 2) refl (eqb n 4) refl (eqb n 8) refl (eqb n 16) refl h
+  where
+    go : (p : Bool) → eqb n 1 ≡ p → (q : Bool) → eqb n 2 ≡ q → (r : Bool) → eqb n 4 ≡ r → (s : Bool) → eqb n 8 ≡ s → (t : Bool) → eqb n 16 ≡ t
+        → (p || (q || (r || (s || (t || false))))) ≡ true → P n
+    go true x q _ r _ s _ t _ _ = rw (eqb-true n 1 x) a
+    go false _ true x r _ s _ t _ _ = rw (eqb-true n 2 x) b
+    go false _ false _ true x s _ t _ _ = rw (eqb-true n 4 x) c
+    go false _ false _ false _ true x t _ _ = rw (eqb-true n 8 x) d
+    go false _ false _ false _ false _ true x _ = rw (eqb-true n 16 x) e
+    go false _ false _ false _ false _ false _ z = absurd (false≢true z)
+
+pub listed-some : (n : ℕ) → Listed n → 0 < n
+listed-some n h = by-length (λ n. 0 < n) n h (omega arith) (omega arith) (omega arith) (omega arith) (omega arith)
+
+pub listed-few : (n : ℕ) → Listed n → n ≤ 16
+listed-few n h = by-length (λ n. n ≤ 16) n h (omega arith) (omega arith) (omega arith) (omega arith) (omega arith)
+
+-- The next multiple of a whole size, and the size: each size divides 64.
+record Rounded (end l w : ℕ) : Type 0 where
+  after : end ≤ next-multiple end w
+  before : next-multiple end w + w ≤ 64 * suc l
+
+rounded : (k : Kind) (n end l : ℕ) → Listed n → end ≤ 64 * l → Rounded end l (whole k n)
+unfolding next-multiple whole size
+rounded int n end l h e =
+    by-length (λ n. Rounded end l (whole int n)) n h
+    (record { after = omega arith; before = omega arith })
+    (record { after = omega arith; before = omega arith })
+    (record { after = omega arith; before = omega arith })
+    (record { after = omega arith; before = omega arith })
+    (record { after = omega arith; before = omega arith })
+rounded bool n end l h e =
+    by-length (λ n. Rounded end l (whole bool n)) n h
+    (record { after = omega arith; before = omega arith })
+    (record { after = omega arith; before = omega arith })
+    (record { after = omega arith; before = omega arith })
+    (record { after = omega arith; before = omega arith })
+    (record { after = omega arith; before = omega arith })
+
+-- No declaration keeps to it all.
+pub ordered-none : (text : List ℕ) → Ordered text []
+unfolding need
+ordered-none text = record {
+  few = omega arith;
+  listed = λ x h. absurd (omega arith);
+  named = λ x h. absurd (omega arith);
+  ends = λ x h. absurd (omega arith);
+  apart = λ x y h g. absurd (omega arith);
+  small = omega arith;
+}
+
+pub ordered-laid : {text : List ℕ} {Γ : Declarations} → Ordered text Γ → Laid Γ
+ordered-laid k = record {
+  few = k .few;
+  some-lanes = λ x h. listed-some _ (k .listed x h);
+  few-lanes = λ x h. listed-few _ (k .listed x h);
+  ends = k .ends;
+  small = k .small;
+}
+
+-- One more declaration is the last, where need is, and those before it stay.
+module _ (Γ : Declarations) (d : Declared) where
+  pub new-length : length (Γ ++ (d ∷ [])) ≡ suc (length Γ)
+  new-length = simp length-append (omega arith)
+
+  pub new-declared : declared (Γ ++ (d ∷ [])) (length Γ) ≡ d
+  unfolding declared
+  new-declared = getD-at Γ d [] _ (length Γ) refl
+
+  pub old-declared : (x : ℕ) → x < length Γ → declared (Γ ++ (d ∷ [])) x ≡ declared Γ x
+  unfolding declared
+  old-declared x h = List·getD-append Γ (d ∷ []) _ x h
+
+  pub new-need : need (Γ ++ (d ∷ [])) ≡ end-of d
+  unfolding need
+  new-need = go Γ
+    where
+      go : (Γ : Declarations) → need (Γ ++ (d ∷ [])) ≡ end-of d
+      go [] = refl
+      go (e ∷ []) = refl
+      go (e ∷ f ∷ Γ) = go (f ∷ Γ)
+
+  -- What holds of each declaration, of one more.
+  pub each-new : (P : Declared → Type 0) → ((x : ℕ) → x < length Γ → P (declared Γ x)) → P d → (x : ℕ) → x < length (Γ ++ (d ∷ [])) → P (declared (Γ ++ (d ∷ [])) x)
+  each-new P h p x l =
+      let le : x ≤ length Γ = omega (arith, new-length) in
+      ⊎-elim (λ (e : x ≡ length Γ). rw (e, new-declared) p) (λ (lt : x < length Γ). rw (old-declared x lt) (h x lt)) (eq-or-lt-of-le le)
+
+  pub grows-new : Grows Γ (Γ ++ (d ∷ []))
+  grows-new = record { longer = omega (arith, new-length); kinds = λ x h. ap (λ (d : Declared). d .kind) (old-declared x h); lanes = λ x h. ap (λ (d : Declared). d .lanes) (old-declared x h) }
+
+  -- Where it begins after the others' end.
+  apart-new : need Γ ≤ d .address → ((x : ℕ) → x < length Γ → end-of (declared Γ x) ≤ need Γ) → ((x y : ℕ) → x < y → y < length Γ → end-of (declared Γ x) ≤ (declared Γ y) .address)
+      → (x y : ℕ) → x < y → y < length (Γ ++ (d ∷ [])) → end-of (declared (Γ ++ (d ∷ [])) x) ≤ (declared (Γ ++ (d ∷ [])) y) .address
+  apart-new after ends apart x y l h =
+      let below : x < length Γ = omega (arith, new-length) in
+      let le : y ≤ length Γ = omega (arith, new-length) in
+      rw (old-declared x below)
+      (⊎-elim
+      (λ (e : y ≡ length Γ). rw (e, new-declared) (omega (arith, ends x below)))
+      (λ (lt : y < length Γ). rw (old-declared y lt) (apart x y l lt))
+      (eq-or-lt-of-le le))
+
+module _ {text : List ℕ} {Γ : Declarations} (k : Ordered text Γ) (kind : Kind) (n p : ℕ) (x : Name) (fits : Listed n) (spelled : Spelled text p x) (room : length Γ < declaration-limit) where
+  pub ordered-one : Ordered text (with-one kind n p x Γ)
+  unfolding with-one
+  ordered-one =
+      let d : Declared = record { name = x; place = p; kind = kind; lanes = n; address = next-multiple (need Γ) (whole kind n); open? = true } in
+      let r = rounded kind n (need Γ) (length Γ) fits (k .small) in
+      let last = new-need Γ d in
+      let more = new-length Γ d in
+      record {
+        few = omega (arith, more, room);
+        listed = each-new Γ d (λ d. Listed (d .lanes)) (k .listed) fits;
+        named = each-new Γ d (λ d. Spelled text (d .place) (d .name)) (k .named) spelled;
+        ends = each-new Γ d (λ e. end-of e ≤ need (Γ ++ (d ∷ []))) (λ x h. omega (arith, k .ends x h, last, r .after)) (omega (arith, last));
+        apart = apart-new Γ d (r .after) (k .ends) (k .apart);
+        small = omega (arith, last, more, r .before);
+      }
+
+-- A closed scope's declarations are alike.
+pub closing-alike : (n : ℕ) (Γ : Declarations) → Alike Γ (closing n Γ)
+unfolding shut
+closing-alike zero [] = none-yet
+closing-alike (suc n) [] = none-yet
+closing-alike zero (d ∷ Γ) = both-more refl (closing-alike zero Γ)
+closing-alike (suc n) (d ∷ Γ) = both-more refl (closing-alike n Γ)
+
+pub alike-length : {Γ Δ : Declarations} → Alike Γ Δ → length Δ ≡ length Γ
+alike-length none-yet = refl
+alike-length (both-more _ a) = ap suc (alike-length a)
+
+pub alike-need : {Γ Δ : Declarations} → Alike Γ Δ → need Δ ≡ need Γ
+unfolding need shut
+alike-need none-yet = refl
+alike-need (both-more s none-yet) = ap end-of s
+alike-need (both-more _ (both-more s a)) = alike-need (both-more s a)
+
+pub alike-declared : {Γ Δ : Declarations} (x : ℕ) → Alike Γ Δ → shut (declared Δ x) ≡ shut (declared Γ x)
+unfolding declared
+alike-declared x none-yet = refl
+alike-declared zero (both-more s a) = s
+alike-declared (suc x) (both-more s a) = alike-declared x a
+
+pub grows-alike : {Γ Δ : Declarations} → Alike Γ Δ → Grows Γ Δ
+unfolding shut
+grows-alike a = record {
+  longer = omega (arith, alike-length a);
+  kinds = λ x h. ap (λ (d : Declared). d .kind) (alike-declared x a);
+  lanes = λ x h. ap (λ (d : Declared). d .lanes) (alike-declared x a);
+}
+
+pub ordered-alike : {text : List ℕ} {Γ Δ : Declarations} → Alike Γ Δ → Ordered text Γ → Ordered text Δ
+unfolding shut
+ordered-alike {text} {Γ} {Δ} a k =
+    let l = alike-length a in
+    let n = alike-need a in
+    record {
+      few = omega (arith, l, k .few);
+      listed = λ x h. each (λ d. Listed (d .lanes)) x (k .listed x (omega arith));
+      named = λ x h. each (λ d. Spelled text (d .place) (d .name)) x (k .named x (omega arith));
+      ends = λ x h. rw n (each (λ d. end-of d ≤ need Γ) x (k .ends x (omega arith)));
+      apart = λ x y h g. each (λ d. end-of d ≤ (declared Δ y) .address) x (each (λ d. end-of (declared Γ x) ≤ d .address) y (k .apart x y h (omega arith)));
+      small = rw (n, l) (k .small);
+    }
+  where
+    each : (P : Declared → Type 0) (x : ℕ) → P (shut (declared Γ x)) → P (shut (declared Δ x))
+    each P x h = rw (alike-declared x a) h

@@ -1,0 +1,45 @@
+-- What holds of each element of a list holds of each element of its parts, of two lists together, and of what is made of each.
+use Prim.Native.Nat.{ℕ, zero, suc, _<_}
+use mathlib.Core.List.{List, [], _∷_, _++_, map, zipWith}
+use native.Mathlib.Omega.{arith}
+use lib.ListN.{length, getD, take, drop, replicate}
+use Rattle.laws.specs.Values.{All, no-more, and-one}
+
+module _ {A : Type 0} {P : A → Type 0} where
+  pub all-at : {l : List A} → All P l → (i : ℕ) (d : A) → i < length l → P (getD l i d)
+  all-at no-more i d h = absurd (omega arith)
+  all-at (and-one p a) zero d h = p
+  all-at (and-one p a) (suc i) d h = all-at a i d (omega arith)
+
+  pub all-of : (l : List A) (d : A) → ((i : ℕ) → i < length l → P (getD l i d)) → All P l
+  all-of [] d h = no-more
+  all-of (x ∷ l) d h = and-one (h 0 (omega arith)) (all-of l d (λ i lt. h (suc i) (omega arith)))
+
+  pub all-take : {l : List A} (n : ℕ) → All P l → All P (take n l)
+  all-take zero a = no-more
+  all-take (suc n) no-more = no-more
+  all-take (suc n) (and-one p a) = and-one p (all-take n a)
+
+  pub all-drop : {l : List A} (n : ℕ) → All P l → All P (drop n l)
+  all-drop zero a = a
+  all-drop (suc n) no-more = no-more
+  all-drop (suc n) (and-one p a) = all-drop n a
+
+  pub all-append : {l r : List A} → All P l → All P r → All P (l ++ r)
+  all-append no-more b = b
+  all-append (and-one p a) b = and-one p (all-append a b)
+
+  pub all-replicate : (n : ℕ) (x : A) → P x → All P (replicate n x)
+  all-replicate zero x p = no-more
+  all-replicate (suc n) x p = and-one p (all-replicate n x p)
+
+module _ {A B : Type 0} {P : A → Type 0} {Q : B → Type 0} where
+  pub all-map : (f : A → B) {l : List A} → ((x : A) → P x → Q (f x)) → All P l → All Q (map f l)
+  all-map f h no-more = no-more
+  all-map f h (and-one {x = x} p a) = and-one (h x p) (all-map f h a)
+
+  pub all-zip : {D : Type 0} {R : D → Type 0} (f : A → B → D) {u : List A} {v : List B} → ((x : A) (y : B) → P x → Q y → R (f x y)) → All P u → All Q v → All R (zipWith f u v)
+  unfolding zipWith
+  all-zip f h no-more b = no-more
+  all-zip f h (and-one p a) no-more = no-more
+  all-zip f h (and-one {x = x} p a) (and-one {x = y} q b) = and-one (h x y p q) (all-zip f h a b)

@@ -1,0 +1,43 @@
+-- How declarations lie, and how they grow while a text is typed.
+use Prim.Native.Nat.{ℕ, _+_, _*_, _≤_, _<_}
+use mathlib.Core.Path.{_≡_}
+use mathlib.Core.Bool.{true}
+use mathlib.Core.List.{List, [], _∷_, _++_, map}
+use lib.ListN.{length, take, drop}
+use Rattle.meaning.specs.Codes.{_among_, lengths, declaration-limit}
+use Rattle.meaning.specs.Memory.{Declared, Declarations, declared, whole, need}
+use Rattle.meaning.specs.Typing.{shut}
+use Rattle.laws.specs.Sound.{Spelled}
+
+-- The end of a declaration's bytes.
+abbrev pub end-of : Declared → ℕ
+end-of d = d .address + whole (d .kind) (d .lanes)
+
+-- A length of the list: of a name, of a context, of an expression.
+abbrev pub Listed : ℕ → Type 0
+Listed n = n among lengths ≡ true
+
+-- What the declarations of a text keep to: at most 64 of them, each of a listed length, with its name in the text, and with "an address
+-- of its own, in text order, never shared with another"; all end before need, which is at most 64 bytes for each.
+pub record Ordered (text : List ℕ) (Γ : Declarations) : Type 0 where
+  pub few : length Γ ≤ declaration-limit
+  pub listed : (x : ℕ) → x < length Γ → Listed ((declared Γ x) .lanes)
+  pub named : (x : ℕ) → x < length Γ → Spelled text ((declared Γ x) .place) ((declared Γ x) .name)
+  pub ends : (x : ℕ) → x < length Γ → end-of (declared Γ x) ≤ need Γ
+  pub apart : (x y : ℕ) → x < y → y < length Γ → end-of (declared Γ x) ≤ (declared Γ y) .address
+  pub small : need Γ ≤ 64 * length Γ
+
+-- The declarations at the end of a scope that began after n of them.
+abbrev pub closing : ℕ → Declarations → Declarations
+closing n Γ = take n Γ ++ map shut (drop n Γ)
+
+-- The same declarations, their scopes perhaps closed.
+pub data Alike : Declarations → Declarations → Type 0 where
+  none-yet : Alike [] []
+  both-more : {d e : Declared} {Γ Δ : Declarations} → shut e ≡ shut d → Alike Γ Δ → Alike (d ∷ Γ) (e ∷ Δ)
+
+-- More declarations: those that were there have their kinds and lengths.
+pub record Grows (Γ Δ : Declarations) : Type 0 where
+  pub longer : length Γ ≤ length Δ
+  pub kinds : (x : ℕ) → x < length Γ → (declared Δ x) .kind ≡ (declared Γ x) .kind
+  pub lanes : (x : ℕ) → x < length Γ → (declared Δ x) .lanes ≡ (declared Γ x) .lanes

@@ -1,0 +1,9 @@
+pub mod Outcomes
+pub mod Sound
+pub mod Tokens
+pub mod Declarations
+pub mod Lengths
+pub mod Near
+pub mod Accepted
+pub mod Values
+pub mod Words

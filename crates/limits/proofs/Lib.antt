@@ -1,6 +1,0 @@
-pub mod Outcomes
-pub mod Tokens
-pub mod Reading
-pub mod Laying
-pub mod Typing
-pub mod Accepted

@@ -1,1 +1,0 @@
-// Theorems: every text that is read or typed keeps within the buffers of the stages over it.
