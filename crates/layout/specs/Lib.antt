@@ -1,5 +1,7 @@
-pub mod Rows
+pub mod Tokens
+pub mod Sizes
+pub mod Heads
+pub mod Stack
 pub mod Words
 pub mod Code
 pub mod Table
-pub mod Sound

@@ -5,14 +5,37 @@ use mathlib.Core.Path.{_≡_}
 use mathlib.Core.List.{List, [], _∷_, _++_}
 use lib.Dec.{eqb}
 use lib.ListN.{length, getD, take, drop}
+use lib.Seq.{sets}
 use Rattle.meaning.specs.declared.Kind.{Kind}
 use Rattle.meaning.specs.declared.Kind.the-variants.{Int as int, Bool as bool}
 use Rattle.meaning.specs.Memory.{Declared, Declarations, declared}
-use Rattle.meaning.specs.Tree.{kind-number}
+use Rattle.layout.specs.Words.{unit}
+
+-- The words of a row, and its columns.
+abbrev pub row-words : ℕ
+row-words = 6
+
+abbrev pub place-column : ℕ
+place-column = 0
+
+abbrev pub end-column : ℕ
+end-column = 1
+
+abbrev pub kind-column : ℕ
+kind-column = 2
+
+abbrev pub lanes-column : ℕ
+lanes-column = 3
+
+abbrev pub address-column : ℕ
+address-column = 4
+
+abbrev pub open-column : ℕ
+open-column = 5
 
 -- Word k of declaration i.
 abbrev pub word-of : List ℕ → ℕ → ℕ → ℕ
-word-of table i k = getD table (i * 6 + k) 0
+word-of table i k = getD table (i * row-words + k) 0
 
 -- The kind of a number (`kind-number`): 0 int, 1 bool.
 unfoldable pub kind-of : ℕ → Kind
@@ -22,13 +45,17 @@ kind-of (suc n) = bool
 -- Declaration i of a table, in a text.
 unfoldable pub entry : List ℕ → List ℕ → ℕ → Declared
 entry text table i = record {
-  name = take (word-of table i 1 - word-of table i 0) (drop (word-of table i 0) text);
-  place = word-of table i 0;
-  kind = kind-of (word-of table i 2);
-  lanes = word-of table i 3;
-  address = word-of table i 4;
-  open? = eqb (word-of table i 5) 1;
+  name = take (word-of table i end-column - word-of table i place-column) (drop (word-of table i place-column) text);
+  place = word-of table i place-column;
+  kind = kind-of (word-of table i kind-column);
+  lanes = word-of table i lanes-column;
+  address = word-of table i address-column;
+  open? = eqb (word-of table i open-column) 1;
 }
+
+-- A table with a row, which is open, for declaration i.
+abbrev pub with-row : List ℕ → ℕ → ℕ → ℕ → ℕ → ℕ → ℕ → List ℕ
+with-row table i place end kind lanes address = sets (sets table (i * row-words) (unit place end kind)) (i * row-words + lanes-column) (unit lanes address 1)
 
 -- The first n declarations.
 unfoldable pub entries : List ℕ → List ℕ → ℕ → Declarations
@@ -37,7 +64,7 @@ entries text table (suc n) = entries text table n ++ (entry text table n ∷ [])
 
 -- What a run needs of a table: the kind, the length and the address of each of the declarations Γ.
 pub record Lies (table : List ℕ) (Γ : Declarations) : Type 0 where
-  pub room : length Γ * 6 ≤ length table
-  pub kind : (i : ℕ) → i < length Γ → kind-of (word-of table i 2) ≡ (declared Γ i) .kind
-  pub lanes : (i : ℕ) → i < length Γ → word-of table i 3 ≡ (declared Γ i) .lanes
-  pub address : (i : ℕ) → i < length Γ → word-of table i 4 ≡ (declared Γ i) .address
+  pub room : length Γ * row-words ≤ length table
+  pub kind : (i : ℕ) → i < length Γ → kind-of (word-of table i kind-column) ≡ (declared Γ i) .kind
+  pub lanes : (i : ℕ) → i < length Γ → word-of table i lanes-column ≡ (declared Γ i) .lanes
+  pub address : (i : ℕ) → i < length Γ → word-of table i address-column ≡ (declared Γ i) .address

@@ -5,24 +5,44 @@
 -- many words follow these three, so that the next statement is found without a look at the parts.
 use Prim.Native.Nat.{ℕ, _+_}
 use mathlib.Core.Bool.{Bool, true, false}
-use mathlib.Core.List.{List, [], _∷_, _++_}
+use mathlib.Core.List.{List, [], _∷_, _++_, map}
 use mathlib.Core.Option.{Option, none, some}
+use lib.Dec.{eqb}
 use lib.ListN.{length}
 use Rattle.meaning.specs.declared.Kind.{Kind}
 use Rattle.meaning.specs.declared.Kind.the-variants.{Int as int, Bool as bool}
+use Rattle.meaning.specs.declared.Unary.the-variants.{Neg as neg, Inv as inv, Not as not}
+use Rattle.meaning.specs.declared.Binary.the-variants.{Or as or, Xor as xor, And as and, Eq as eq, Ne as ne, Lt as lt, Gt as gt, Le as le, Ge as ge, Add as add, Sub as sub, Mul as mul}
+use Rattle.meaning.specs.Codes.{option, lookup}
 use Rattle.meaning.specs.Tokens.{the}
-use Rattle.meaning.specs.Tree.{Unary, Binary, table, unary-table, Expr, number, boolean, name, current-mask, unary, binary, Block, Stmt, empty, braces, declare, assign, if-else, while, scalar, Stmts, none-yet, _⨾_}
+use Rattle.meaning.specs.declared.Unary.{Unary}
+use Rattle.meaning.specs.declared.Binary.{Binary}
+use Rattle.meaning.specs.Tree.{table, unary-table, Expr, number, boolean, name, current-mask, unary, binary, Block, Stmt, empty, braces, declare, assign, if-else, while, scalar, Stmts, none-yet, _⨾_}
+
+-- The words of a unit.
+abbrev pub unit-words : ℕ
+unit-words = 3
 
 -- A unit of words.
 abbrev pub unit : ℕ → ℕ → ℕ → List ℕ
 unit a b c = a ∷ b ∷ c ∷ []
 
--- The tag of a binary operator is its sign's; of a unary one its sign's and 128, since `-` is both.
+-- The tag of a binary operator is its sign's; of a unary one its sign's and so much more, since `-` is both.
+abbrev pub unary-more : ℕ
+unary-more = 128
+
 unfoldable pub binary-tag : Binary → ℕ
 binary-tag o = the ((table o) .0)
 
 unfoldable pub unary-tag : Unary → ℕ
-unary-tag o = 128 + the ((unary-table o) .0)
+unary-tag o = unary-more + the ((unary-table o) .0)
+
+-- The operator of a tag: the last one stands for every other tag.
+unfoldable pub operator-of : ℕ → Binary
+operator-of tag = option mul (λ o. o) (lookup (eqb tag) (map (λ o. (binary-tag o, o)) (or ∷ xor ∷ and ∷ eq ∷ ne ∷ lt ∷ gt ∷ le ∷ ge ∷ add ∷ sub ∷ [])))
+
+unfoldable pub sign-of : ℕ → Unary
+sign-of tag = option not (λ o. o) (lookup (eqb tag) (map (λ o. (unary-tag o, o)) (neg ∷ inv ∷ [])))
 
 unfoldable pub boolean-tag : Bool → ℕ
 boolean-tag true = the "true"

@@ -1,70 +1,108 @@
-// What a token is, by number, as meaning's Tokens has it.
-pub const END: u8 = 0;
+// Tokens in a lent buffer: a unit of three words for each, what it is, its place, and its value. What a token is has the number that
+// meaning's Tokens gives it.
+ghost use mathlib.Core.Path.{_≡_};
+ghost use Prim.Native.Nat.{_+_, _*_, _≤_};
+ghost use lib.ListN.{length};
+ghost use Rattle.layout.specs.Tokens.{token-words, kind-at, place-at, value-at};
 
-pub const NUMBER: u8 = 1;
+// The words of a token, the first of which says what it is, and which of the others is what.
+pub const WORDS: usize = 3;
 
-pub const NAME: u8 = 2;
+pub const PLACE: usize = 1;
 
-pub const INT: u8 = 16;
+pub const VALUE: usize = 2;
 
-pub const BOOL: u8 = 17;
+// What a token is.
+pub const END: u32 = 0;
 
-pub const BLOCK: u8 = 18;
+pub const NUMBER: u32 = 1;
 
-pub const IF: u8 = 19;
+pub const NAME: u32 = 2;
 
-pub const ELSE: u8 = 20;
+pub const INT: u32 = 16;
 
-pub const WHILE: u8 = 21;
+pub const BOOL: u32 = 17;
 
-pub const SCALAR: u8 = 22;
+pub const BLOCK: u32 = 18;
 
-pub const CURRENT_MASK: u8 = 23;
+pub const IF: u32 = 19;
 
-pub const TRUE: u8 = 24;
+pub const ELSE: u32 = 20;
 
-pub const FALSE: u8 = 25;
+pub const WHILE: u32 = 21;
 
-pub const EQUAL: u8 = 48;
+pub const SCALAR: u32 = 22;
 
-pub const UNEQUAL: u8 = 49;
+pub const CURRENT_MASK: u32 = 23;
 
-pub const AT_MOST: u8 = 50;
+pub const TRUE: u32 = 24;
 
-pub const AT_LEAST: u8 = 51;
+pub const FALSE: u32 = 25;
 
-pub const SEMICOLON: u8 = 52;
+pub const EQUAL: u32 = 48;
 
-pub const OPEN_BRACE: u8 = 53;
+pub const UNEQUAL: u32 = 49;
 
-pub const CLOSE_BRACE: u8 = 54;
+pub const AT_MOST: u32 = 50;
 
-pub const OPEN: u8 = 55;
+pub const AT_LEAST: u32 = 51;
 
-pub const CLOSE: u8 = 56;
+pub const SEMICOLON: u32 = 52;
 
-pub const OPEN_BRACKET: u8 = 57;
+pub const OPEN_BRACE: u32 = 53;
 
-pub const CLOSE_BRACKET: u8 = 58;
+pub const CLOSE_BRACE: u32 = 54;
 
-pub const BECOMES: u8 = 59;
+pub const OPEN: u32 = 55;
 
-pub const BELOW: u8 = 60;
+pub const CLOSE: u32 = 56;
 
-pub const ABOVE: u8 = 61;
+pub const OPEN_BRACKET: u32 = 57;
 
-pub const PLUS: u8 = 62;
+pub const CLOSE_BRACKET: u32 = 58;
 
-pub const MINUS: u8 = 63;
+pub const BECOMES: u32 = 59;
 
-pub const TIMES: u8 = 64;
+pub const BELOW: u32 = 60;
 
-pub const AND: u8 = 65;
+pub const ABOVE: u32 = 61;
 
-pub const OR: u8 = 66;
+pub const PLUS: u32 = 62;
 
-pub const XOR: u8 = 67;
+pub const MINUS: u32 = 63;
 
-pub const INVERSE: u8 = 68;
+pub const TIMES: u32 = 64;
 
-pub const NOT: u8 = 69;
+pub const AND: u32 = 65;
+
+pub const OR: u32 = 66;
+
+pub const XOR: u32 = 67;
+
+pub const INVERSE: u32 = 68;
+
+pub const NOT: u32 = 69;
+
+// What the token `at` is.
+pub fn kind(tokens: &[u32], at: usize) -> u32
+    requires { ⌜ at * token-words + token-words ≤ length (now tokens) ⌝ }
+    ensures { λ r. ⌜ r ≡ kind-at (now (tokens .entry)) at ⌝ }
+{
+    tokens[at * WORDS]
+}
+
+// Its place.
+pub fn place(tokens: &[u32], at: usize) -> u32
+    requires { ⌜ at * token-words + token-words ≤ length (now tokens) ⌝ }
+    ensures { λ r. ⌜ r ≡ place-at (now (tokens .entry)) at ⌝ }
+{
+    tokens[at * WORDS + PLACE]
+}
+
+// Its value: what a number is worth, and the end of a name.
+pub fn value(tokens: &[u32], at: usize) -> u32
+    requires { ⌜ at * token-words + token-words ≤ length (now tokens) ⌝ }
+    ensures { λ r. ⌜ r ≡ value-at (now (tokens .entry)) at ⌝ }
+{
+    tokens[at * WORDS + VALUE]
+}

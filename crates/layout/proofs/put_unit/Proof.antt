@@ -7,29 +7,29 @@ use lib.ListN.{length-set}
 use Rattle.layout.proofs.put_unit.Statement.{statement}
 use Rattle.layout.proofs.put_unit.Tie as tie
 
-mul-tree : tie.Need-mul-tree
-mul-tree c = search needs
+mul-words : tie.Need-mul-words
+mul-words c = search needs
 
-slice-write-tree : tie.Need-slice-write-tree
-slice-write-tree c = search needs
+slice-write-words : tie.Need-slice-write-words
+slice-write-words c = search needs
 
-add-tree : tie.Need-add-tree
-add-tree c = search needs
+add-words : tie.Need-add-words
+add-words c = search needs
 
-mul-tree-2 : tie.Need-mul-tree-2
-mul-tree-2 c = search needs
+mul-words-2 : tie.Need-mul-words-2
+mul-words-2 c = search needs
 
-slice-write-tree-2 : tie.Need-slice-write-tree-2
-slice-write-tree-2 c = simp length-set (omega arith)
+slice-write-words-2 : tie.Need-slice-write-words-2
+slice-write-words-2 c = simp length-set (omega arith)
 
-add-tree-2 : tie.Need-add-tree-2
-add-tree-2 c = search needs
+add-words-2 : tie.Need-add-words-2
+add-words-2 c = search needs
 
-mul-tree-3 : tie.Need-mul-tree-3
-mul-tree-3 c = search needs
+mul-words-3 : tie.Need-mul-words-3
+mul-words-3 c = search needs
 
-slice-write-tree-3 : tie.Need-slice-write-tree-3
-slice-write-tree-3 c = simp length-set (omega arith)
+slice-write-words-3 : tie.Need-slice-write-words-3
+slice-write-words-3 c = simp length-set (omega arith)
 
 same-length : tie.Need-same-length
 same-length c = search needs
@@ -45,13 +45,13 @@ pub put-unit-spec : {M : Type 1} → statement M
 put-unit-spec =
     tie.close
     (tie.spec
-    mul-tree
-    slice-write-tree
-    add-tree
-    mul-tree-2
-    slice-write-tree-2
-    add-tree-2
-    mul-tree-3
-    slice-write-tree-3
+    mul-words
+    slice-write-words
+    add-words
+    mul-words-2
+    slice-write-words-2
+    add-words-2
+    mul-words-3
+    slice-write-words-3
     same-length
     returns)

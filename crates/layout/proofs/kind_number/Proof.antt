@@ -1,0 +1,22 @@
+-- `layout::kind_number` meets its contract. Assumes nothing.
+use borrow.Author.Needs.{needs}
+use Rattle.meaning.specs.Tree.{kind-number}
+use Rattle.layout.proofs.kind_number.Statement.{statement}
+use Rattle.layout.proofs.kind_number.Tie as tie
+
+enum-told : tie.Need-enum-told
+enum-told c = search needs
+
+enum-told-2 : tie.Need-enum-told-2
+enum-told-2 c = search needs
+
+returns : tie.Need-returns
+unfolding kind-number
+returns c = rw (c .enum-told .given .1)
+
+returns-2 : tie.Need-returns-2
+unfolding kind-number
+returns-2 c = rw (c .enum-told2 .given .1)
+
+pub kind-number-spec : {M : Type 1} → statement M
+kind-number-spec = tie.close (tie.spec enum-told enum-told-2 returns returns-2)
