@@ -1,10 +1,7 @@
-pub mod Bytes
 pub mod Numbers
 pub mod Signs
 pub mod Words
-pub mod Pieces
-pub mod Turns
-pub mod Spelled
+pub mod Written
 pub mod Rows
-pub mod Going
+pub mod SoFar
 pub mod Unique

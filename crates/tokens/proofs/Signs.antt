@@ -10,7 +10,7 @@ use lib.ListN.{length, getD}
 use borrow.Author.Tests.{eq-eqb, ne-eqb, eqb-true, eqb-false, not-true}
 use Rattle.meaning.specs.Codes.{_among_}
 use Rattle.meaning.specs.Tokens.{bytes, signs, numbered, marks, starts, sign, bad}
-use Rattle.tokens.proofs.Bytes.{and-l, and-r}
+use Rattle.laws.proofs.Tests.{and-l, and-r}
 
 -- One byte, or two of which the second is not 0.
 abbrev small : List ℕ → Bool

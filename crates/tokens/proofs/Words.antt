@@ -13,45 +13,8 @@ use Rattle.meaning.specs.Codes.{if_then_else_, option, lookup, name-limit}
 use Rattle.meaning.specs.Tokens.{bad, token, bytes, equal, reserved, signs, numbered, words, marks, the, word}
 use Rattle.tokens.specs.declared.Lexeme.the-variants.{Token, Bad}
 use Rattle.tokens.specs.Lexing.{word-kind, lexeme}
-use Rattle.tokens.proofs.Bytes.{by-if}
-
--- The numbers of the three kinds that are no word and no sign, and that they differ.
-pub the-end : the "end" ≡ 0
-unfolding the numbered words marks reserved signs
-the-end = refl
-
-pub the-number : the "number" ≡ 1
-unfolding the numbered words marks reserved signs
-the-number = refl
-
-pub the-name : the "name" ≡ 2
-unfolding the numbered words marks reserved signs
-the-name = refl
-
-pub number-not-end : the "number" ≡ the "end" → ⊥
-number-not-end e = omega (arith, the-number, the-end)
-
-pub name-not-end : the "name" ≡ the "end" → ⊥
-name-not-end e = omega (arith, the-name, the-end)
-
-pub number-not-name : the "number" ≡ the "name" → ⊥
-number-not-name e = omega (arith, the-number, the-name)
-
--- What is found in a numbered list has a number of the list.
-lookup-from : (f : String → Bool) (l : List String) (n : ℕ) {k : ℕ} → lookup f (numbered n l) ≡ some k → n ≤ k
-unfolding numbered
-lookup-from f [] n {k} h = let z : _≡_ {A = ℕ} 0 1 = cc in absurd (omega arith)
-lookup-from f (r ∷ l) n {k} h =
-    by-if (λ (o : Option ℕ). o ≡ some k → n ≤ k) (f r) (λ _. some n) (λ _. lookup f (numbered (suc n) l))
-    (λ _ e. let q : n ≡ k = cc in omega arith) (λ _ e. omega (arith, lookup-from f l (suc n) e)) h
-
--- The reserved word that s is.
-abbrev pub found : List ℕ → List (String × ℕ) → Option ℕ
-found s = lookup (λ r. equal (bytes r) s)
-
-pub reserved-from : (s : List ℕ) {k : ℕ} → found s words ≡ some k → 16 ≤ k
-unfolding words
-reserved-from s h = lookup-from (λ r. equal (bytes r) s) reserved 16 h
+use Rattle.laws.proofs.The.{the-name}
+use Rattle.laws.proofs.Pieces.{found, reserved-from}
 
 -- A word as a piece, by its kind.
 module _ (at : ℕ) (s : List ℕ) where
@@ -74,13 +37,13 @@ module _ (at : ℕ) (s : List ℕ) where
       go none h e = refl
       go (some n) h e = let q : 2 ≡ n = e in absurd (omega (arith, reserved-from s h))
 
-  pub long-name : 2 ≡ word-kind s → 31 < length s → Bad ≡ lexeme at (word s)
-  unfolding lexeme name-limit
-  long-name is lt = rw (name-word is, lt-leb (length s) 31 lt)
+  pub long-name : 2 ≡ word-kind s → name-limit < length s → Bad ≡ lexeme at (word s)
+  unfolding lexeme
+  long-name is lt = rw (name-word is, lt-leb (length s) name-limit lt)
 
-  pub good-name : 2 ≡ word-kind s → length s ≤ 31 → Token 2 (at + length s) (length s) ≡ lexeme at (word s)
-  unfolding lexeme name-limit
-  good-name is le = rw (name-word is, le-leb (length s) 31 le, the-name)
+  pub good-name : 2 ≡ word-kind s → length s ≤ name-limit → Token 2 (at + length s) (length s) ≡ lexeme at (word s)
+  unfolding lexeme
+  good-name is le = rw (name-word is, le-leb (length s) name-limit le, the-name)
 
 -- The first of a list that s is.
 abbrev pub first-of : List (String × ℕ) → List ℕ → ℕ

@@ -1,40 +1,25 @@
 // Text to tokens, in one pass from left to right.
+use layout::Stage;
+use layout::limit;
+use layout::put_unit;
+use layout::token;
 use meaning::Refusal;
 ghost use mathlib.Core.Path.{_≡_};
 ghost use mathlib.Core.List.{[], _∷_};
-ghost use Prim.Native.Nat.{ℕ, _+_, _*_, _-_, _<_, _≤_};
+ghost use mathlib.Core.Bool.{true};
+ghost use Prim.Native.Nat.{ℕ, _+_, _<_, _≤_};
 ghost use lib.ListN.{length, getD};
-ghost use Rattle.meaning.specs.Codes.{if_then_else_};
-ghost use Rattle.meaning.specs.Tokens.{letter, digit, run-of, equal, word, digits, sign, marks, piece};
-ghost use Rattle.tokens.specs.Lexing.{passes, word-kind, lexeme, Room, Lexes};
+ghost use Rattle.meaning.specs.Codes.{if_then_else_, text-limit, number-limit};
+ghost use Rattle.meaning.specs.Tokens.{letter, digit, run-of, equal, decimal, word, digits, sign, marks, piece};
+ghost use Rattle.tokens.specs.Lexing.{class-test, word-kind, lexeme, Token-room, Lexes};
 
-// The limits of document 01: bytes of a text, bytes of a name, a number.
-const TEXT_LIMIT: usize = 4096;
-
-const NAME_LIMIT: usize = 31;
-
-const NUMBER_LIMIT: u64 = 2147483647;
-
-// What the end, a number and a name are.
-const END: u8 = 0;
-
-const NUMBER: u8 = 1;
-
-const NAME: u8 = 2;
-
-// The answer: how many tokens there are, the end among them, or the first refusal.
-pub enum Lexed {
-    All { count: usize },
-    Refused { refusal: Refusal, place: usize },
-}
-
-// The text's tokens and its end into the three buffers, or the first refusal.
-pub fn lex(text: &[u8], kinds: &mut [u8], places: &mut [u32], values: &mut [u32]) -> Lexed
-    requires { ⌜ Room (now text) (now kinds) (now places) (now values) ⌝ }
-    ensures { λ r. ⌜ Lexes (now (text .entry)) r (now (kinds .exit)) (now (places .exit)) (now (values .exit)) ⌝ }
+// The text's tokens and its end into the buffer: how many there are, the end among them, and their words; or the first refusal.
+pub fn lex(text: &[u8], tokens: &mut [u32]) -> Stage
+    requires { ⌜ Token-room (now text) (now tokens) ⌝ }
+    ensures { λ r. ⌜ Lexes (now (text .entry)) r (now (tokens .exit)) ⌝ }
 {
-    if TEXT_LIMIT < text.len() {
-        return Lexed::Refused {
+    if limit::TEXT < text.len() {
+        return Stage::Refused {
             refusal: Refusal::TextTooLong,
             place: 0,
         };
@@ -47,36 +32,35 @@ pub fn lex(text: &[u8], kinds: &mut [u8], places: &mut [u32], values: &mut [u32]
                 at += len;
             }
             Lexeme::Token(kind, value, len) => {
-                kinds[n] = kind;
-                places[n] = at as u32;
-                values[n] = value;
+                put_unit(tokens, n * token::WORDS, kind, at as u32, value);
                 n += 1;
                 at += len;
             }
             Lexeme::Bad => {
-                return Lexed::Refused {
+                return Stage::Refused {
                     refusal: Refusal::BadBytes,
                     place: at,
                 };
             }
         }
     }
-    kinds[n] = END;
-    places[n] = at as u32;
-    values[n] = 0;
-    Lexed::All { count: n + 1 }
+    put_unit(tokens, n * token::WORDS, token::END, at as u32, 0);
+    Stage::Done {
+        count: n + 1,
+        size: n * token::WORDS + token::WORDS,
+    }
 }
 
 // What stands at a place of the text: so many bytes between tokens; a token's kind, value and length; what no rule allows.
 enum Lexeme {
     Gap(usize),
-    Token(u8, u32, usize),
+    Token(u32, u32, usize),
     Bad,
 }
 
 // What s starts with, at place `at`: the tests of document 01, in the order in which the definition has them.
 fn next(s: &[u8], at: usize) -> Lexeme
-    requires { ⌜ (0 < length (now s)) × (at + length (now s) ≤ 4096) ⌝ }
+    requires { ⌜ (0 < length (now s)) × (at + length (now s) ≤ text-limit) ⌝ }
     ensures { λ r. ⌜ r ≡ lexeme at (piece (now (s .entry))) ⌝ }
 {
     let b = s[0];
@@ -109,38 +93,38 @@ fn byte_at(s: &[u8], i: usize) -> u8
 
 // A reserved word or a name, at place `at`; beside a name stands its end.
 fn word_of(s: &[u8], at: usize) -> Lexeme
-    requires { ⌜ at + length (now s) ≤ 4096 ⌝ }
+    requires { ⌜ at + length (now s) ≤ text-limit ⌝ }
     ensures { λ r. ⌜ r ≡ lexeme at (word (now (s .entry))) ⌝ }
 {
-    let kind = kind_of(s);
+    let kind = word_kind(s);
     let len = s.len();
-    if kind != NAME {
+    if kind != token::NAME {
         return Lexeme::Token(kind, 0, len);
     }
-    if NAME_LIMIT < len {
+    if limit::NAME < len {
         return Lexeme::Bad;
     }
-    Lexeme::Token(NAME, (at + len) as u32, len)
+    Lexeme::Token(token::NAME, (at + len) as u32, len)
 }
 
 // What a word is: a reserved word, or a name.
-fn kind_of(word: &[u8]) -> u8
+fn word_kind(word: &[u8]) -> u32
     ensures { λ r. ⌜ r ≡ word-kind (now (word .entry)) ⌝ }
 {
-    let kind = kind_if(word, b"false", 25, NAME);
-    let kind = kind_if(word, b"true", 24, kind);
-    let kind = kind_if(word, b"current_mask", 23, kind);
-    let kind = kind_if(word, b"scalar", 22, kind);
-    let kind = kind_if(word, b"while", 21, kind);
-    let kind = kind_if(word, b"else", 20, kind);
-    let kind = kind_if(word, b"if", 19, kind);
-    let kind = kind_if(word, b"block", 18, kind);
-    let kind = kind_if(word, b"bool", 17, kind);
-    kind_if(word, b"int", 16, kind)
+    let kind = kind_if(word, b"false", token::FALSE, token::NAME);
+    let kind = kind_if(word, b"true", token::TRUE, kind);
+    let kind = kind_if(word, b"current_mask", token::CURRENT_MASK, kind);
+    let kind = kind_if(word, b"scalar", token::SCALAR, kind);
+    let kind = kind_if(word, b"while", token::WHILE, kind);
+    let kind = kind_if(word, b"else", token::ELSE, kind);
+    let kind = kind_if(word, b"if", token::IF, kind);
+    let kind = kind_if(word, b"block", token::BLOCK, kind);
+    let kind = kind_if(word, b"bool", token::BOOL, kind);
+    kind_if(word, b"int", token::INT, kind)
 }
 
 // The kind of a reserved word, where a word is that one, and otherwise another kind.
-fn kind_if(word: &[u8], reserved: &[u8], kind: u8, other: u8) -> u8
+fn kind_if(word: &[u8], reserved: &[u8], kind: u32, other: u32) -> u32
     ensures { λ r. ⌜ r ≡ (if equal (now (reserved .entry)) (now (word .entry)) then (λ _. kind) else λ _. other) ⌝ }
 {
     if same(reserved, word) { kind } else { other }
@@ -175,19 +159,19 @@ fn number_of(s: &[u8]) -> Lexeme
     let mut i = 0;
     while i < s.len() {
         let more = with_digit(value, s[i]);
-        if NUMBER_LIMIT < more {
+        if limit::NUMBER < more {
             return Lexeme::Bad;
         }
         value = more as u32;
         i += 1;
     }
-    Lexeme::Token(NUMBER, value, i)
+    Lexeme::Token(token::NUMBER, value, i)
 }
 
 // A number with one more digit.
 fn with_digit(value: u32, b: u8) -> u64
-    requires { ⌜ (48 ≤ b) × (value ≤ 2147483647) ⌝ }
-    ensures { λ r. ⌜ r ≡ 10 * value + (b - 48) ⌝ }
+    requires { ⌜ (digit b ≡ true) × (value ≤ number-limit) ⌝ }
+    ensures { λ r. ⌜ r ≡ decimal value (b ∷ []) ⌝ }
 {
     10 * value as u64 + (b - b'0') as u64
 }
@@ -196,16 +180,16 @@ fn with_digit(value: u32, b: u8) -> u64
 fn sign_of(b: u8, c: u8) -> Lexeme
     ensures { λ r. ⌜ ((at : ℕ) → r ≡ lexeme at (sign marks (b ∷ c ∷ []))) ⌝ }
 {
-    if c != b'=' {
-        return short_sign(b);
+    if c == b'=' {
+        match b {
+            b'=' => return Lexeme::Token(token::EQUAL, 0, 2),
+            b'!' => return Lexeme::Token(token::UNEQUAL, 0, 2),
+            b'<' => return Lexeme::Token(token::AT_MOST, 0, 2),
+            b'>' => return Lexeme::Token(token::AT_LEAST, 0, 2),
+            _ => {}
+        }
     }
-    match b {
-        b'=' => Lexeme::Token(48, 0, 2),
-        b'!' => Lexeme::Token(49, 0, 2),
-        b'<' => Lexeme::Token(50, 0, 2),
-        b'>' => Lexeme::Token(51, 0, 2),
-        _ => short_sign(b),
-    }
+    short_sign(b)
 }
 
 // The sign that b is by itself.
@@ -213,24 +197,24 @@ fn short_sign(b: u8) -> Lexeme
     ensures { λ r. ⌜ ((at : ℕ) → r ≡ lexeme at (sign marks (b ∷ []))) ⌝ }
 {
     match b {
-        b';' => Lexeme::Token(52, 0, 1),
-        b'{' => Lexeme::Token(53, 0, 1),
-        b'}' => Lexeme::Token(54, 0, 1),
-        b'(' => Lexeme::Token(55, 0, 1),
-        b')' => Lexeme::Token(56, 0, 1),
-        b'[' => Lexeme::Token(57, 0, 1),
-        b']' => Lexeme::Token(58, 0, 1),
-        b'=' => Lexeme::Token(59, 0, 1),
-        b'<' => Lexeme::Token(60, 0, 1),
-        b'>' => Lexeme::Token(61, 0, 1),
-        b'+' => Lexeme::Token(62, 0, 1),
-        b'-' => Lexeme::Token(63, 0, 1),
-        b'*' => Lexeme::Token(64, 0, 1),
-        b'&' => Lexeme::Token(65, 0, 1),
-        b'|' => Lexeme::Token(66, 0, 1),
-        b'^' => Lexeme::Token(67, 0, 1),
-        b'~' => Lexeme::Token(68, 0, 1),
-        b'!' => Lexeme::Token(69, 0, 1),
+        b';' => Lexeme::Token(token::SEMICOLON, 0, 1),
+        b'{' => Lexeme::Token(token::OPEN_BRACE, 0, 1),
+        b'}' => Lexeme::Token(token::CLOSE_BRACE, 0, 1),
+        b'(' => Lexeme::Token(token::OPEN, 0, 1),
+        b')' => Lexeme::Token(token::CLOSE, 0, 1),
+        b'[' => Lexeme::Token(token::OPEN_BRACKET, 0, 1),
+        b']' => Lexeme::Token(token::CLOSE_BRACKET, 0, 1),
+        b'=' => Lexeme::Token(token::BECOMES, 0, 1),
+        b'<' => Lexeme::Token(token::BELOW, 0, 1),
+        b'>' => Lexeme::Token(token::ABOVE, 0, 1),
+        b'+' => Lexeme::Token(token::PLUS, 0, 1),
+        b'-' => Lexeme::Token(token::MINUS, 0, 1),
+        b'*' => Lexeme::Token(token::TIMES, 0, 1),
+        b'&' => Lexeme::Token(token::AND, 0, 1),
+        b'|' => Lexeme::Token(token::OR, 0, 1),
+        b'^' => Lexeme::Token(token::XOR, 0, 1),
+        b'~' => Lexeme::Token(token::INVERSE, 0, 1),
+        b'!' => Lexeme::Token(token::NOT, 0, 1),
         _ => Lexeme::Bad,
     }
 }
@@ -245,7 +229,7 @@ enum Class {
 
 // How many bytes of a class s starts with.
 fn run(s: &[u8], class: Class) -> usize
-    ensures { λ r. ⌜ r ≡ run-of (passes class) (now (s .entry)) ⌝ }
+    ensures { λ r. ⌜ r ≡ run-of (class-test class) (now (s .entry)) ⌝ }
 {
     let mut i = 0;
     while i < s.len() {
@@ -259,7 +243,7 @@ fn run(s: &[u8], class: Class) -> usize
 
 // Is a byte of a class?
 fn belongs(b: u8, class: Class) -> bool
-    ensures { λ r. ⌜ r ≡ passes class b ⌝ }
+    ensures { λ r. ⌜ r ≡ class-test class b ⌝ }
 {
     match class {
         Class::Space => (b == b' ') | (b == b'\t') | (b == b'\n') | (b == b'\r'),

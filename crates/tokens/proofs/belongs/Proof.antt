@@ -1,7 +1,7 @@
 -- `tokens::belongs` meets its contract.
 use lib.Dec.{eqb}
 use Rattle.meaning.specs.Tokens.{space, letter-or-digit, in-line, bytes}
-use Rattle.tokens.proofs.Bytes.{any-of-four}
+use Rattle.laws.proofs.Tests.{any-of-four}
 use borrow.Author.Needs.{needs}
 use Rattle.tokens.proofs.belongs.Statement.{statement}
 use Rattle.tokens.proofs.belongs.Tie as tie

@@ -5,9 +5,9 @@ use lib.ListN.{length-take}
 use borrow.Author.Needs.{needs}
 use Rattle.meaning.specs.Tokens.{digit}
 use Rattle.tokens.specs.Lexing.{lexeme}
-use Rattle.tokens.proofs.Bytes.{run-length, run-take}
+use Rattle.laws.proofs.Bytes.{run-length, run-take}
 use Rattle.tokens.proofs.Signs.{slashes, sign-of-two}
-use Rattle.tokens.proofs.Pieces.{Plain, at-space, at-comment, at-word, at-number, at-sign, some-digits}
+use Rattle.laws.proofs.Pieces.{Plain, at-space, at-comment, at-word, at-number, at-sign, some-digits}
 use Rattle.tokens.proofs.next.Statement.{statement}
 use Rattle.tokens.proofs.next.Tie as tie
 

@@ -6,14 +6,14 @@ use native.Mathlib.Nat.{zero-add}
 use borrow.Author.Tests.{not-true, not-false}
 use lib.ListN.{length, drop}
 use Rattle.meaning.specs.Tokens.{run-of}
-use Rattle.tokens.specs.Lexing.{passes}
-use Rattle.tokens.proofs.Bytes.{run-on, run-off, run-end}
+use Rattle.tokens.specs.Lexing.{class-test}
+use Rattle.laws.proofs.Bytes.{run-on, run-off, run-end}
 use borrow.Author.Needs.{needs}
 use Rattle.tokens.proofs.run.Statement.{statement}
 use Rattle.tokens.proofs.run.Tie as tie
 
 abbrev Inv-loop : tie.InvT-loop
-Inv-loop s class i₀ i = (i ≤ length s) × (run-of (passes class) s ≡ i + run-of (passes class) (drop i s))
+Inv-loop s class i₀ i = (i ≤ length s) × (run-of (class-test class) s ≡ i + run-of (class-test class) (drop i s))
 
 abbrev μ-loop : tie.MeasureT-loop
 μ-loop s class i₀ i = length s - i

@@ -4,7 +4,7 @@ use Prim.Native.Nat.{_-_}
 use borrow.Author.Tests.{eq-eqb, ne-eqb}
 use lib.ListN.{length, drop}
 use Rattle.meaning.specs.Tokens.{starts, equal}
-use Rattle.tokens.proofs.Bytes.{starts-on, starts-off, starts-end}
+use Rattle.laws.proofs.Bytes.{starts-on, starts-off, starts-end}
 use borrow.Author.Needs.{needs}
 use Rattle.tokens.proofs.same.Statement.{statement}
 use Rattle.tokens.proofs.same.Tie as tie
