@@ -21,7 +21,7 @@ use Rattle.layout.specs.Words.{unit, flat, headed, kind-tag, flat-stmt, flat-st
 use Rattle.reading_expressions.specs.Contract.{Appends, Read, token-at}
 use Rattle.reading_expressions.proofs.Answers.{Leaf, So-far, turn-left, appends-then, appends-none, appends-size, appends-head}
 use Rattle.reading_expressions.proofs.Laws.{Seen, expected, not-expected}
-use Rattle.reading.specs.Contract.{inner, braced, other, one-more, listed, Declares}
+use Rattle.reading.specs.Contract.{inner, braced, other, one-more, listed, Begins-declaration, with-head, with-long-head}
 
 -- A unit of a head is written before the parts that stand behind it.
 pub appends-unit : {a b c : List ℕ} {n q x y z : ℕ} {w : List ℕ} → n + 3 ≤ length a → q ≤ length b → Appends a (n + 3) b q w → c ≡ sets b n (unit x y z)
@@ -30,11 +30,17 @@ appends-unit {x = x} {y} {z} le le′ parts e = rw e (appends-head (unit x y z) 
 
 -- Its first unit has how many words follow.
 pub appends-headed : {a b c : List ℕ} {n q : ℕ} (tag p : ℕ) (h w : List ℕ) → n + 3 ≤ length a → q ≤ length b → Appends a (n + 3) b q (h ++ w)
-    → c ≡ sets b n (unit tag p (q - (n + 3))) → Appends a n c q (headed tag p h w)
+    → c ≡ with-head tag p n q b → Appends a n c q (headed tag p h w)
 unfolding headed
 appends-headed {n = n} {q} tag p h w le le′ parts e =
     let size : q - (n + 3) ≡ length h + length w = omega (arith, appends-size le le′ parts, length-append h w) in
     rw size at (appends-unit le le′ parts e)
+
+-- A head of two units, the second of which has the words x and y of two parts.
+pub appends-long : {a b c : List ℕ} {n q x y : ℕ} (tag p i j : ℕ) (w : List ℕ) → n + 3 + 3 ≤ length a → q ≤ length b → Appends a (n + 3 + 3) b q w
+    → c ≡ with-long-head tag p n i j q b → i - (n + 6) ≡ x → j - i ≡ y → Appends a n c q (headed tag p (unit x y 0) w)
+appends-long tag p i j w le le′ parts e first second =
+    rw (← first, ← second) (appends-headed tag p (unit _ _ 0) w (omega arith) (rw length-sets le′) (appends-unit le le′ parts refl) e)
 
 -- A statement, where r more levels may open.
 pub statement-is : (ts : List Token) (r at : ℕ) → statement ts r at ≡ statement-over ts r (inner ts r) (braced ts r) at
@@ -52,7 +58,7 @@ module _ {ts : List Token} {at k p v : ℕ} (r : ℕ) (t : Seen ts at k p v) whe
   unfolding statement-over choose look next _⇒_ kinds the numbered reserved signs words marks
   read-braces e = rw (statement-is, add-one, t .is, e, t .place)
 
-  pub read-declaration : (d : Declares k) → statement ts r at ≡ declaration ts r (d .kind) (token-at ts at) (at + 1)
+  pub read-declaration : (d : Begins-declaration k) → statement ts r at ≡ declaration ts r (d .kind) (token-at ts at) (at + 1)
   unfolding statement-over choose look next _⇒_ kinds the numbered reserved signs words marks kind-tag
   read-declaration d = go (d .kind) (d .is)
     where
@@ -77,11 +83,12 @@ module _ {ts : List Token} {at k p v : ℕ} (r : ℕ) (t : Seen ts at k p v) whe
   unfolding statement-over choose look next _⇒_ kinds the numbered reserved signs words marks
   read-scalar e = rw (statement-is, add-one, t .is, e, t .place)
 
-  pub read-none : (k ≡ 52 → ⊥) → (k ≡ 53 → ⊥) → (k ≡ 16 → ⊥) → (k ≡ 17 → ⊥) → (k ≡ 2 → ⊥) → (k ≡ 19 → ⊥) → (k ≡ 21 → ⊥) → (k ≡ 22 → ⊥)
+  -- A token of another kind, w, is refused.
+  pub read-none : {w : ℕ} → w ≡ k → (w ≡ 52 → ⊥) → (w ≡ 53 → ⊥) → (w ≡ 16 → ⊥) → (w ≡ 17 → ⊥) → (w ≡ 2 → ⊥) → (w ≡ 19 → ⊥) → (w ≡ 21 → ⊥) → (w ≡ 22 → ⊥)
       → statement ts r at ≡ refused NotAllowed p
   unfolding statement-over choose look next _⇒_ kinds the numbered reserved signs words marks
-  read-none a b c d e f g h =
-      rw (statement-is, t .is, ne-eqb k 52 a, ne-eqb k 53 b, ne-eqb k 16 c, ne-eqb k 17 d, ne-eqb k 2 e, ne-eqb k 19 f, ne-eqb k 21 g, ne-eqb k 22 h, t .place)
+  read-none {w} is a b c d e f g h =
+      rw (statement-is, t .is, ← is, ne-eqb w 52 a, ne-eqb w 53 b, ne-eqb w 16 c, ne-eqb w 17 d, ne-eqb w 2 e, ne-eqb w 19 f, ne-eqb w 21 g, ne-eqb w 22 h, t .place)
 
 -- One act after two others.
 pub after-both : {A B C : Type 0} (o : Out ℕ A) (f : A → Reads B) (g : B → Reads C) → after o (λ a q. after (f a q) g) ≡ after (after o f) g
@@ -199,7 +206,7 @@ module _ {ts : List Token} {at k p v : ℕ} (r : ℕ) (t : Seen ts at k p v) (br
     braces-open t′ e ne′ = rw (braces-is, e, not-expected "}" t′ ne′)
 
     pub braces-read : {old mid new : List ℕ} {n q k′ p′ v′ x : ℕ} → Seen ts q k′ p′ v′ → k′ ≡ 54 → n + 3 ≤ length old → x ≤ length mid
-        → Read (listed ts 54 (r - 1) (at + 1)) flat-stmts old (n + 3) mid q x → new ≡ sets mid n (unit 53 p (x - (n + 3))) → Read (statement ts r at) flat-stmt old n new (q + 1) x
+        → Read (listed ts 54 (r - 1) (at + 1)) flat-stmts old (n + 3) mid q x → new ≡ with-head 53 p n x mid → Read (statement ts r at) flat-stmt old n new (q + 1) x
     unfolding flat-stmt the numbered reserved signs words marks
     braces-read t′ close le le′ d in-new = record {
       what = braces p (d .what);
@@ -213,7 +220,7 @@ module _ {ts : List Token} {at k p v : ℕ} (r : ℕ) (t : Seen ts at k p v) (wo
   scalar-refused e = rw (read-scalar r t word, e)
 
   pub scalar-read : {old mid new : List ℕ} {n q x : ℕ} → n + 3 ≤ length old → x ≤ length mid → Read (opening ts (inner ts r) (at + 1)) flat-stmt old (n + 3) mid q x
-      → new ≡ sets mid n (unit 22 p (x - (n + 3))) → Read (statement ts r at) flat-stmt old n new q x
+      → new ≡ with-head 22 p n x mid → Read (statement ts r at) flat-stmt old n new q x
   unfolding flat-stmt the numbered reserved signs words marks
   scalar-read le le′ d in-new = record {
     what = scalar p (d .what);
@@ -229,18 +236,15 @@ module _ {ts : List Token} {at k p v : ℕ} (r : ℕ) (t : Seen ts at k p v) (wo
   pub while-body-refused : {e : Expr} {q x : ℕ} {c : Refusal} → condition ts r (at + 1) ≡ ok e q → opening ts (inner ts r) q ≡ refused c x → statement ts r at ≡ refused c x
   while-body-refused e f = rw (read-while r t word, e, f)
 
-  pub while-read : {old tree₁ tree₂ put new : List ℕ} {n q x q′ x′ : ℕ} → n + 3 + 3 ≤ length old → x ≤ length tree₁ → x′ ≤ length tree₂
+  pub while-read : {old tree₁ tree₂ new : List ℕ} {n q x q′ x′ : ℕ} → n + 3 + 3 ≤ length old → x ≤ length tree₁ → x′ ≤ length tree₂
       → Read (condition ts r (at + 1)) flat old (n + 3 + 3) tree₁ q x → Read (opening ts (inner ts r) q) flat-stmt tree₁ x tree₂ q′ x′
-      → put ≡ sets tree₂ (n + 3) (unit (x - (n + 3 + 3)) 0 0) → new ≡ sets put n (unit 21 p (x′ - (n + 3))) → Read (statement ts r at) flat-stmt old n new q′ x′
+      → new ≡ with-long-head 21 p n x x x′ tree₂ → Read (statement ts r at) flat-stmt old n new q′ x′
   unfolding flat-stmt the numbered reserved signs words marks
-  while-read {n = n} {x = x} le le₁ le₂ e s in-put in-new =
-      let size : x - (n + 3 + 3) ≡ length (flat (e .what)) = omega (arith, appends-size le le₁ (e .wrote)) in
-      record {
-        what = while p (e .what) (s .what);
-        is = rw (read-while r t word, e .is, s .is);
-        wrote = rw (← size) (appends-headed 21 p (unit (x - (n + 3 + 3)) 0 0) (flat (e .what) ++ flat-stmt (s .what)) (omega arith) (rw (in-put, length-sets) le₂)
-            (appends-unit le le₂ (appends-then (e .wrote) (s .wrote)) in-put) in-new);
-      }
+  while-read {n = n} {x = x} le le₁ le₂ e s in-new = record {
+    what = while p (e .what) (s .what);
+    is = rw (read-while r t word, e .is, s .is);
+    wrote = appends-long 21 p x x (flat (e .what) ++ flat-stmt (s .what)) le le₂ (appends-then (e .wrote) (s .wrote)) in-new (omega (arith, appends-size le le₁ (e .wrote))) (omega arith);
+  }
 
 -- `if`.
 module _ {ts : List Token} {at k p v : ℕ} (r : ℕ) (t : Seen ts at k p v) (word : k ≡ the "if") where
@@ -259,16 +263,13 @@ module _ {ts : List Token} {at k p v : ℕ} (r : ℕ) (t : Seen ts at k p v) (wo
       pub if-second-refused : {c : Refusal} {x : ℕ} → other ts r q′ ≡ refused c x → statement ts r at ≡ refused c x
       if-second-refused f = rw (if-is, f)
 
-  pub if-read : {old tree₁ tree₂ tree₃ put new : List ℕ} {n q x q′ x′ q″ x″ : ℕ} → n + 3 + 3 ≤ length old → x ≤ length tree₁ → x′ ≤ length tree₂ → x″ ≤ length tree₃
+  pub if-read : {old tree₁ tree₂ tree₃ new : List ℕ} {n q x q′ x′ q″ x″ : ℕ} → n + 3 + 3 ≤ length old → x ≤ length tree₁ → x′ ≤ length tree₂ → x″ ≤ length tree₃
       → Read (condition ts r (at + 1)) flat old (n + 3 + 3) tree₁ q x → Read (opening ts (inner ts r) q) flat-stmt tree₁ x tree₂ q′ x′ → Read (other ts r q′) flat-stmt tree₂ x′ tree₃ q″ x″
-      → put ≡ sets tree₃ (n + 3) (unit (x - (n + 3 + 3)) (x′ - x) 0) → new ≡ sets put n (unit 19 p (x″ - (n + 3))) → Read (statement ts r at) flat-stmt old n new q″ x″
+      → new ≡ with-long-head 19 p n x x′ x″ tree₃ → Read (statement ts r at) flat-stmt old n new q″ x″
   unfolding flat-stmt the numbered reserved signs words marks
-  if-read {n = n} {x = x} {x′ = x′} le le₁ le₂ le₃ e s u in-put in-new =
-      let size : x - (n + 3 + 3) ≡ length (flat (e .what)) = omega (arith, appends-size le le₁ (e .wrote)) in
-      let size′ : x′ - x ≡ length (flat-stmt (s .what)) = omega (arith, appends-size le₁ le₂ (s .wrote)) in
-      record {
-        what = if-else p (e .what) (s .what) (u .what);
-        is = rw (if-is (e .is) (s .is), u .is);
-        wrote = rw (← size, ← size′) (appends-headed 19 p (unit (x - (n + 3 + 3)) (x′ - x) 0) (flat (e .what) ++ (flat-stmt (s .what) ++ flat-stmt (u .what))) (omega arith)
-            (rw (in-put, length-sets) le₃) (appends-unit le le₃ (appends-then (e .wrote) (appends-then (s .wrote) (u .wrote))) in-put) in-new);
-      }
+  if-read {n = n} {x = x} {x′ = x′} le le₁ le₂ le₃ e s u in-new = record {
+    what = if-else p (e .what) (s .what) (u .what);
+    is = rw (if-is (e .is) (s .is), u .is);
+    wrote = appends-long 19 p x x′ (flat (e .what) ++ (flat-stmt (s .what) ++ flat-stmt (u .what))) le le₃ (appends-then (e .wrote) (appends-then (s .wrote) (u .wrote))) in-new
+        (omega (arith, appends-size le le₁ (e .wrote))) (omega (arith, appends-size le₁ le₂ (s .wrote)));
+  }

@@ -1,5 +1,5 @@
 -- How the definitions read a value, an assignment and a declaration: one law for each way through the code.
-use Prim.Native.Nat.{ℕ, suc, _+_, _-_, _<_, _≤_}
+use Prim.Native.Nat.{ℕ, _+_, _-_, _<_, _≤_}
 use mathlib.Core.Path.{_≡_, refl, _∙_}
 use mathlib.Core.Bool.{Bool, true, false}
 use mathlib.Core.List.{List, [], _∷_, _++_}
@@ -7,7 +7,7 @@ use mathlib.Core.Option.{Option, none, some}
 use native.Mathlib.Numerals.{add-one}
 use native.Mathlib.Omega.{arith}
 use lib.Dec.{eqb}
-use lib.ListN.{length, getD}
+use lib.ListN.{length}
 use lib.Seq.{sets, length-sets}
 use borrow.Author.Tests.{ne-eqb}
 use Rattle.meaning.specs.declared.Kind.{Kind}
@@ -18,11 +18,14 @@ use Rattle.meaning.specs.Codes.{Out, ok, refused, after, _>>=_, give}
 use Rattle.meaning.specs.Tokens.{Token, the, words, marks, numbered, reserved, signs}
 use Rattle.meaning.specs.Tree.{Expr, Stmt, declare, assign}
 use Rattle.meaning.specs.Reading.{_⇒_, look, next, choose, expect, expression, block, declaration, assignment, statement}
+use Rattle.layout.specs.Tokens.{kind-at}
 use Rattle.layout.specs.Words.{unit, flat, kind-tag, block-length, block-place, value-place, value-words, flat-stmt}
-use Rattle.reading_expressions.specs.Contract.{Ready, Read, token-at}
-use Rattle.reading_expressions.proofs.Answers.{goes-on, past, appends-sets}
-use Rattle.reading_expressions.proofs.Laws.{Seen, expected, not-expected}
-use Rattle.reading.specs.Contract.{valued, initial, Declares, Between}
+use Rattle.reading_expressions.specs.Contract.{Holds-only, Ends-a-text, Read, Expects, token-at, token-count}
+use Rattle.layout.specs.declared.Stage.{Stage}
+use Rattle.layout.specs.declared.Stage.the-variants.{Done, Refused}
+use Rattle.reading_expressions.proofs.Answers.{Leaf, past}
+use Rattle.reading_expressions.proofs.Laws.{Seen, seen, expected, not-expected}
+use Rattle.reading.specs.Contract.{valued, initial, Begins-declaration, Between, Reads-block, with-head}
 use Rattle.reading.proofs.Laws.{appends-unit, appends-headed, read-assignment, read-declaration, after-both}
 
 -- `=` of a value.
@@ -80,7 +83,7 @@ module _ {ts : List Token} {at k p v : ℕ} (r : ℕ) (t : Seen ts at k p v) (na
   assign-refused e = rw (assigns, e)
 
   pub assign-read : {old mid new : List ℕ} {n x q : ℕ} → n + 3 ≤ length old → q ≤ length mid
-      → Read (valued ts r (at + 1)) (λ w. unit v (w .0) 0 ++ flat (w .1)) old (n + 3) mid x q → new ≡ sets mid n (unit 2 p (q - (n + 3)))
+      → Read (valued ts r (at + 1)) (λ w. unit v (w .0) 0 ++ flat (w .1)) old (n + 3) mid x q → new ≡ with-head 2 p n q mid
       → Read (statement ts r at) flat-stmt old n new x q
   unfolding flat-stmt the numbered reserved signs words marks
   assign-read le le′ d in-new = record {
@@ -91,10 +94,9 @@ module _ {ts : List Token} {at k p v : ℕ} (r : ℕ) (t : Seen ts at k p v) (na
 
 -- What follows a declared name.
 module _ {ts : List Token} {at k p v : ℕ} (r : ℕ) (t : Seen ts at k p v) where
-  pub initial-none : {old new : List ℕ} {n end : ℕ} → k ≡ 52 → n + 3 ≤ length old → new ≡ sets old n (unit end 0 0)
-      → Read (initial ts r at) (λ v. unit end (value-place v) 0 ++ value-words v) old n new (at + 1) (n + 3)
+  pub initial-none : {end : ℕ} → k ≡ 52 → Leaf (λ v. unit end (value-place v) 0 ++ value-words v) (initial ts r at) (at + 1) end 0 0
   unfolding initial look next the numbered reserved signs words marks value-place value-words
-  initial-none e le in-new = record { what = none; is = rw (add-one, t .is, e); wrote = rw in-new (appends-sets le) }
+  initial-none e = record { what = none; is = rw (add-one, t .is, e); words = refl }
 
   pub initial-is : (k ≡ 52 → ⊥) → initial ts r at ≡ after (valued ts r at) (λ v. give (some v))
   unfolding initial look the numbered reserved signs words marks
@@ -132,7 +134,7 @@ initial-then ts r at f = end (eqb ((token-at ts at) .is) (the ";")) refl
     end false e = rw e (sign (eqb ((token-at ts at) .is) (the "=")) refl ∙ value)
 
 -- A declaration, from its name on.
-module _ {ts : List Token} {at k p v name size place k′ p′ v′ : ℕ} (r : ℕ) (t : Seen ts at k p v) (d : Declares k) (b : Between ts at name size place)
+module _ {ts : List Token} {at k p v name size place k′ p′ v′ : ℕ} (r : ℕ) (t : Seen ts at k p v) (d : Begins-declaration k) (b : Between ts (at + 1) name size place)
     (t′ : Seen ts name k′ p′ v′) where
   pub declared-none : (k′ ≡ 2 → ⊥) → statement ts r at ≡ refused NotAllowed p′
   unfolding declaration the numbered reserved signs words marks
@@ -148,64 +150,58 @@ module _ {ts : List Token} {at k p v name size place k′ p′ v′ : ℕ} (r : 
     pub declared-refused : {c : Refusal} {x : ℕ} → initial ts r (name + 1) ≡ refused c x → statement ts r at ≡ refused c x
     declared-refused e = rw (declares, e)
 
-    pub declared-read : {old mid put new : List ℕ} {n x q : ℕ} → n + 3 + 3 ≤ length old → q ≤ length mid
-        → Read (initial ts r (name + 1)) (λ w. unit v′ (value-place w) 0 ++ value-words w) old (n + 3 + 3) mid x q → put ≡ sets mid (n + 3) (unit size place p′)
-        → new ≡ sets put n (unit k p (q - (n + 3))) → Read (statement ts r at) flat-stmt old n new x q
+    pub declared-read : {old mid put new : List ℕ} {n x q : ℕ} → n + 6 ≤ length old → q ≤ length mid
+        → Read (initial ts r (name + 1)) (λ w. unit v′ (value-place w) 0 ++ value-words w) old (n + 6) mid x q → put ≡ sets mid (n + 3) (unit size place p′)
+        → new ≡ with-head k p n q put → Read (statement ts r at) flat-stmt old n new x q
     unfolding flat-stmt
-    declared-read le le′ i in-put in-new = record {
+    declared-read {n = n} le le′ i in-put in-new = let six : n + 6 ≡ n + 3 + 3 = omega arith in record {
       what = declare p (d .kind) (b .what) p′ ((token-at ts name) .spelled) (i .what);
       is = rw (declares, i .is);
       wrote = rw (b .size-is, b .place-is, ← d .is, ← t′ .end is)
           (appends-headed k p (unit size place p′ ++ unit v′ (value-place (i .what)) 0) (value-words (i .what)) (omega arith) (rw (in-put, length-sets) le′)
-          (appends-unit le le′ (i .wrote) in-put) in-new);
+          (appends-unit (omega arith) le′ (rw six at (i .wrote)) in-put) in-new);
     }
 
--- The type of a declaration: perhaps `block[N]`.
-module _ {ts : List Token} {k₁ p₁ v₁ : ℕ} (at : ℕ) (t₁ : Seen ts (at + 1) k₁ p₁ v₁) where
-  pub block-none : (k₁ ≡ 18 → ⊥) → Between ts at (at + 1) 0 0
+-- The type of a declaration: perhaps `block[N]`, whose tokens are looked at one after another.
+module _ {ts : List Token} {at k p v : ℕ} (t : Seen ts at k p v) where
+  pub block-none : (k ≡ 18 → ⊥) → Between ts at at 0 0
   unfolding block look the numbered reserved signs words marks block-length block-place
-  block-none ne = record { what = none; is = rw (t₁ .is, ne-eqb k₁ 18 ne); size-is = refl; place-is = refl }
+  block-none ne = record { what = none; is = rw (t .is, ne-eqb k 18 ne); size-is = refl; place-is = refl }
 
-  module _ {k₂ p₂ v₂ : ℕ} (word : k₁ ≡ 18) (t₂ : Seen ts (at + 2) k₂ p₂ v₂) where
-    pub block-is : block ts (at + 1) ≡ after (expect ts "[" (at + 2)) (λ _. expect ts "number" >>= λ n. expect ts "]" >>= λ _. give (some (n .value, n .place)))
+  module _ {k₁ p₁ v₁ : ℕ} (word : k ≡ 18) (t₁ : Seen ts (at + 1) k₁ p₁ v₁) where
+    pub block-is : block ts at ≡ after (expect ts "[" (at + 1)) (λ _. expect ts "number" >>= λ n. expect ts "]" >>= λ _. give (some (n .value, n .place)))
     unfolding block look next the numbered reserved signs words marks
-    block-is = let two : suc (at + 1) ≡ at + 2 = omega arith in rw (t₁ .is, word, two)
+    block-is = rw (add-one, t .is, word)
 
-    pub no-open : (k₂ ≡ 57 → ⊥) → block ts (at + 1) ≡ refused NotAllowed p₂
+    pub no-open : (k₁ ≡ 57 → ⊥) → block ts at ≡ refused NotAllowed p₁
     unfolding the numbered reserved signs words marks
-    no-open ne = rw (block-is, not-expected "[" t₂ ne)
+    no-open ne = rw (block-is, not-expected "[" t₁ ne)
 
-    module _ {k₃ p₃ v₃ : ℕ} (open-is : k₂ ≡ 57) (t₃ : Seen ts (at + 3) k₃ p₃ v₃) where
-      three : at + 2 + 1 ≡ at + 3
-      three = omega arith
-
-      pub no-number : (k₃ ≡ 1 → ⊥) → block ts (at + 1) ≡ refused NotAllowed p₃
+    module _ {k₂ p₂ v₂ : ℕ} (open-is : k₁ ≡ 57) (t₂ : Seen ts (at + 1 + 1) k₂ p₂ v₂) where
+      pub no-number : (k₂ ≡ 1 → ⊥) → block ts at ≡ refused NotAllowed p₂
       unfolding the numbered reserved signs words marks
-      no-number ne = rw (block-is, expected "[" t₂ open-is, three, not-expected "number" t₃ ne)
+      no-number ne = rw (block-is, expected "[" t₁ open-is, not-expected "number" t₂ ne)
 
-      module _ {k₄ p₄ v₄ : ℕ} (number-is : k₃ ≡ 1) (t₄ : Seen ts (at + 4) k₄ p₄ v₄) where
-        four : at + 3 + 1 ≡ at + 4
-        four = omega arith
-
-        pub no-close : (k₄ ≡ 58 → ⊥) → block ts (at + 1) ≡ refused NotAllowed p₄
+      module _ {k₃ p₃ v₃ : ℕ} (number-is : k₂ ≡ 1) (t₃ : Seen ts (at + 1 + 1 + 1) k₃ p₃ v₃) where
+        pub no-close : (k₃ ≡ 58 → ⊥) → block ts at ≡ refused NotAllowed p₃
         unfolding the numbered reserved signs words marks
-        no-close ne = rw (block-is, expected "[" t₂ open-is, three, expected "number" t₃ number-is, four, not-expected "]" t₄ ne)
+        no-close ne = rw (block-is, expected "[" t₁ open-is, expected "number" t₂ number-is, not-expected "]" t₃ ne)
 
-        pub block-read : k₄ ≡ 58 → Between ts at (at + 5) v₃ p₃
+        pub block-read : k₃ ≡ 58 → Between ts at (at + 1 + 1 + 1 + 1) v₂ p₂
         unfolding the numbered reserved signs words marks block-length block-place
-        block-read close-is = let five : at + 4 + 1 ≡ at + 5 = omega arith in record {
-          what = some (v₃, p₃);
-          is = rw (block-is, expected "[" t₂ open-is, three, expected "number" t₃ number-is, four, expected "]" t₄ close-is, five, t₃ .value number-is, t₃ .place);
+        block-read close-is = record {
+          what = some (v₂, p₂);
+          is = rw (block-is, expected "[" t₁ open-is, expected "number" t₂ number-is, expected "]" t₃ close-is, t₂ .value number-is, t₂ .place);
           size-is = refl;
           place-is = refl;
         }
 
-pub block-refused : {ts : List Token} {at k p v x : ℕ} {c : Refusal} (r : ℕ) → Seen ts at k p v → Declares k → block ts (at + 1) ≡ refused c x → statement ts r at ≡ refused c x
+pub block-refused : {ts : List Token} {at k p v x : ℕ} {c : Refusal} (r : ℕ) → Seen ts at k p v → Begins-declaration k → block ts (at + 1) ≡ refused c x → statement ts r at ≡ refused c x
 unfolding declaration
 block-refused r t d e = rw (read-declaration r t d, e)
 
 -- A declaration's first token is not the end of the text.
-pub declares-above : (k : ℕ) → Declares k → 0 < k
+pub declares-above : (k : ℕ) → Begins-declaration k → 0 < k
 unfolding kind-tag the numbered reserved signs words marks
 declares-above k d = go (d .kind) (d .is)
   where
@@ -213,22 +209,54 @@ declares-above k d = go (d .kind) (d .is)
     go int e = omega arith
     go bool e = omega arith
 
--- The tokens of `block[N]` and the one after it are there.
-module _ {K P W : List ℕ} {at : ℕ} {tree : List ℕ} {n : ℕ} (ready : Ready K P W at tree n) (d : Declares (getD K at 0)) where
-  pub one-on : at + 1 < length K
-  one-on = goes-on ready refl (declares-above (getD K at 0) d)
+-- What `block` answers, from the answers of `expect` at its tokens.
+module _ {T : List ℕ} {at : ℕ} (text : Ends-a-text T) (lt : at < token-count T) (word : kind-at T at ≡ 18) where
+  pub open-there : at + 1 < token-count T
+  open-there = past text lt word (omega arith)
 
-  module _ (word : getD K (at + 1) 0 ≡ 18) where
-    pub two-on : at + 2 < length K
-    two-on = omega (arith, past ready one-on word (omega arith))
+  block-refuses : {r : Stage} {c : Refusal} {x : ℕ} → r ≡ Refused c x → ((ts : List Token) → Holds-only T ts → block ts at ≡ refused c x) → Reads-block T at r
+  block-refuses {c = c} {x} is said = record {
+    behind = λ p q e. let z : _≡_ {A = ℕ} 0 1 = cc in absurd (omega arith);
+    done = λ p q e. let z : _≡_ {A = ℕ} 0 1 = cc in absurd (omega arith);
+    refused = λ c′ p e. let a : c ≡ c′ = cc in let b : x ≡ p = cc in rw (← a, ← b) said;
+  }
 
-    module _ (open-is : getD K (at + 2) 0 ≡ 57) where
-      pub three-on : at + 3 < length K
-      three-on = omega (arith, past ready two-on open-is (omega arith))
+  pub open-missing : {s x : ℕ} {r : Stage} {c : Refusal} → Expects 57 T (at + 1) s r → r ≡ Refused c x → Reads-block T at r
+  open-missing {x = x} {c = c} e is = let y = e .refused c x is in
+      block-refuses is (λ ts h. rw (y .1, y .2) (no-open (seen h lt) word (seen h open-there) (y .0)))
 
-      module _ (number-is : getD K (at + 3) 0 ≡ 1) where
-        pub four-on : at + 4 < length K
-        four-on = omega (arith, past ready three-on number-is (omega arith))
+  module _ {s p q : ℕ} {r : Stage} (bracket : Expects 57 T (at + 1) s r) (opened : r ≡ Done p q) where
+    open-is : (kind-at T (at + 1) ≡ 57) × (p ≡ at + 1 + 1)
+    open-is = let y = bracket .done p q opened in (y .0, y .1)
 
-        pub five-on : getD K (at + 4) 0 ≡ 58 → at + 5 < length K
-        five-on close-is = omega (arith, past ready four-on close-is (omega arith))
+    second-there : at + 1 + 1 < token-count T
+    second-there = past text open-there (open-is .0) (omega arith)
+
+    pub number-there : p < token-count T
+    number-there = rw (open-is .1) second-there
+
+    pub number-missing : {s′ x : ℕ} {r′ : Stage} {c : Refusal} → Expects 1 T p s′ r′ → r′ ≡ Refused c x → Reads-block T at r′
+    number-missing {x = x} {c = c} e is = let y = rw (open-is .1) at (e .refused c x is) in
+        block-refuses is (λ ts h. rw (y .1, y .2) (no-number (seen h lt) word (seen h open-there) (open-is .0) (seen h second-there) (y .0)))
+
+    module _ {s′ p′ q′ : ℕ} {r′ : Stage} (number : Expects 1 T p s′ r′) (numbered : r′ ≡ Done p′ q′) where
+      number-is : (kind-at T (at + 1 + 1) ≡ 1) × (p′ ≡ at + 1 + 1 + 1)
+      number-is = let y = rw (open-is .1) at (number .done p′ q′ numbered) in (y .0, y .1)
+
+      third-there : at + 1 + 1 + 1 < token-count T
+      third-there = past text second-there (number-is .0) (omega arith)
+
+      pub close-there : p′ < token-count T
+      close-there = rw (number-is .1) third-there
+
+      pub block-answers : {s″ : ℕ} {r″ : Stage} → Expects 58 T p′ s″ r″ → Reads-block T at r″
+      block-answers e = record {
+        behind = λ a b is. let y = e .done a b is in omega (arith, number-is);
+        done = λ a b is. let y = rw (number-is .1) at (e .done a b is) in let two : at + 1 + 1 ≡ at + 2 = omega arith in record {
+          on = omega arith;
+          within = rw (y .1) (past text third-there (y .0) (omega arith));
+          what = λ ts h. rw (y .1, ← two) (block-read (seen h lt) word (seen h open-there) (open-is .0) (seen h second-there) (number-is .0) (seen h third-there) (y .0));
+        };
+        refused = λ c x is ts h. let y = rw (number-is .1) at (e .refused c x is) in
+            rw (y .1, y .2) (no-close (seen h lt) word (seen h open-there) (open-is .0) (seen h second-there) (number-is .0) (seen h third-there) (y .0));
+      }

@@ -2,6 +2,7 @@
 pub mod Laws
 pub mod LawsValue
 pub mod LawsText
+pub mod Branches
 pub mod Settled
 pub mod Sizes
 mod Examples

@@ -7,18 +7,18 @@ use lib.ListN.{length, take}
 use lib.Seq.{length-take-le}
 use Rattle.meaning.specs.Tokens.{Token}
 use Rattle.layout.specs.Words.{flat-stmts}
-use Rattle.reading_expressions.specs.Contract.{Held}
-use Rattle.reading_expressions.specs.declared.Reading.{Reading}
-use Rattle.reading_expressions.specs.declared.Reading.the-variants.{Done, Refused}
-use Rattle.reading.specs.Contract.{Tells}
+use Rattle.reading_expressions.specs.Contract.{Holds-only}
+use Rattle.layout.specs.declared.Stage.{Stage}
+use Rattle.layout.specs.declared.Stage.the-variants.{Done, Refused}
+use Rattle.reading.specs.Contract.{Reads-text}
 
 -- The same answer, and the same words of the tree.
-pub record Same (tree tree′ : List ℕ) (r r′ : Reading) : Type 0 where
+pub record Same-reading (tree tree′ : List ℕ) (r r′ : Stage) : Type 0 where
   pub answer : r ≡ r′
   pub words : (p q : ℕ) → r ≡ Done p q → take q tree ≡ take q tree′
 
-module _ {kinds places values tree tree′ : List ℕ} (ts : List Token) (h : Held kinds places values ts) where
-  pub coincide : (r r′ : Reading) → Tells kinds places values tree r → Tells kinds places values tree′ r′ → Same tree tree′ r r′
+module _ {tokens tree tree′ : List ℕ} (ts : List Token) (h : Holds-only tokens ts) where
+  pub coincide : (r r′ : Stage) → Reads-text tokens tree r → Reads-text tokens tree′ r′ → Same-reading tree tree′ r r′
   coincide (Done p q) (Done p′ q′) s s′ =
       let w = s .told ts h in
       let w′ = s′ .told ts h in

@@ -1,52 +1,57 @@
 -- What an answer shows follows from what was read and written on the way to it.
-use Prim.Native.Nat.{ℕ, zero, suc, _+_, _*_, _≤_, _<_}
+use Prim.Native.Nat.{ℕ, zero, suc, _+_, _*_, _-_, _≤_, _<_}
 use mathlib.Core.Path.{_≡_, refl, sym, ap, _∙_}
 use mathlib.Core.List.{List, [], _++_, append-assoc, append-nil}
-use native.Mathlib.Nat.{lt-of-not-le}
+use native.Mathlib.Nat.{lt-of-not-le, mul-div-cancel}
 use native.Mathlib.Omega.{arith}
-use lib.ListN.{length, getD, take, drop, length-append}
+use lib.ListN.{length, take, drop, length-append}
 use lib.Seq.{sets, sets-eq, take-take, take-append-le, take-at, take-add, take-append-add, drop-at, length-take-le}
 use Rattle.meaning.specs.declared.Refusal.{Refusal}
 use Rattle.meaning.specs.declared.Refusal.the-variants.{NotAllowed}
 use Rattle.meaning.specs.Codes.{Out, ok, refused}
-use Rattle.meaning.specs.Tokens.{Token}
+use Rattle.meaning.specs.Tokens.{Token, the}
+use Rattle.laws.proofs.The.{the-end}
+use Rattle.layout.specs.Tokens.{token-words, kind-at, place-at}
 use Rattle.layout.specs.Words.{unit}
-use Rattle.reading_expressions.specs.declared.Reading.{Reading}
-use Rattle.reading_expressions.specs.declared.Reading.the-variants.{Done, Refused}
-use Rattle.reading_expressions.specs.Contract.{Held, Ready, Appends, Moved, Read, Shows, Expects}
+use Rattle.layout.specs.declared.Stage.{Stage}
+use Rattle.layout.specs.declared.Stage.the-variants.{Done, Refused}
+use Rattle.reading_expressions.specs.Contract.{Holds-only, Ends-a-text, Ready-to-read, Appends, Puts-node, Moved, Read, Reads-as, Expects, token-count}
+
+-- How many tokens a buffer of n tokens has.
+pub count-is : (tokens : List ℕ) (n : ℕ) → length tokens ≡ n * token-words → token-count tokens ≡ n
+unfolding token-count
+count-is tokens n e = rw e (mul-div-cancel n (omega arith))
+
+-- It has as many as the list that it holds.
+pub held-count : {T : List ℕ} {ts : List Token} → Holds-only T ts → token-count T ≡ length ts
+held-count {T} {ts} h = count-is T (length ts) (h .whole)
 
 -- Where there are tokens left and room for them, reading can go on.
-pub ready-at : {K P W : List ℕ} {at : ℕ} {old : List ℕ} {n : ℕ} {new : List ℕ} {p q : ℕ} → Ready K P W at old n → p < length K → q + 3 * at ≤ n + 3 * p
-    → length new ≡ length old → Ready K P W p new q
-ready-at ready within few kept = record {
-  places-alike = ready .places-alike;
-  values-alike = ready .values-alike;
-  few = ready .few;
-  ends = ready .ends;
-  within = within;
-  space = omega (arith, ready .space);
-}
+pub ready-at : {T : List ℕ} {at : ℕ} {old : List ℕ} {n : ℕ} {new : List ℕ} {p q : ℕ} → Ready-to-read T at old n → p < token-count T → q + 3 * at ≤ n + 3 * p
+    → length new ≡ length old → Ready-to-read T p new q
+ready-at ready within few kept = record { text = ready .text; within = within; space = omega (arith, ready .space) }
 
-pub ready-on : {least : ℕ} {K P W : List ℕ} {at : ℕ} {old : List ℕ} {n : ℕ} {new : List ℕ} {p q : ℕ} → Ready K P W at old n → Moved least (length K) at n p q
-    → length new ≡ length old → Ready K P W p new q
+pub ready-on : {least : ℕ} {T : List ℕ} {at : ℕ} {old : List ℕ} {n : ℕ} {new : List ℕ} {p q : ℕ} → Ready-to-read T at old n → Moved least (token-count T) at n p q
+    → length new ≡ length old → Ready-to-read T p new q
 ready-on ready m kept = ready-at ready (m .within) (m .few) kept
 
 -- A token that is not the end of the text has one after it.
-pub past : {K P W : List ℕ} {at : ℕ} {tree : List ℕ} {size p k : ℕ} → Ready K P W at tree size → p < length K → getD K p 0 ≡ k → 0 < k → p + 1 < length K
-past {p = p} ready within is more = lt-of-not-le (λ le. omega (arith, ready .ends p (omega arith)))
+pub past : {T : List ℕ} {p k : ℕ} → Ends-a-text T → p < token-count T → kind-at T p ≡ k → 0 < k → p + 1 < token-count T
+past {T} {p} text within is more =
+    lt-of-not-le (λ le. let last : token-count T - 1 ≡ p = omega arith in let ends : kind-at T p ≡ the "end" = rw last at (text .ends) in omega (arith, the-end))
 
 -- There is room for its unit, and reading can go on behind that unit, or without one.
-module _ {K P W : List ℕ} {at : ℕ} {tree : List ℕ} {size k : ℕ} (ready : Ready K P W at tree size) (is : getD K at 0 ≡ k) (more : 0 < k) where
-  pub goes-on : at + 1 < length K
-  goes-on = past ready (ready .within) is more
+module _ {T : List ℕ} {at : ℕ} {tree : List ℕ} {size k : ℕ} (ready : Ready-to-read T at tree size) (is : kind-at T at ≡ k) (more : 0 < k) where
+  pub goes-on : at + 1 < token-count T
+  goes-on = past (ready .text) (ready .within) is more
 
   pub unit-fits : size + 3 ≤ length tree
   unit-fits = omega (arith, goes-on, ready .space)
 
-  pub ready-behind : Ready K P W (at + 1) tree (size + 3)
+  pub ready-behind : Ready-to-read T (at + 1) tree (size + 3)
   ready-behind = ready-at ready goes-on (omega arith) refl
 
-  pub ready-next : Ready K P W (at + 1) tree size
+  pub ready-next : Ready-to-read T (at + 1) tree size
   ready-next = ready-at ready goes-on (omega arith) refl
 
 -- Appending.
@@ -130,26 +135,26 @@ turn-left {o = o} {K = K} {count = count} {p = p} s lt = go (s .turns) (s .enoug
     go (suc k) enough is = (k, enough, is)
 
 -- The same, whatever tokens the buffers hold.
-pub record Going (least : ℕ) {A : Type 0} (G : List Token → Out ℕ A) (K : List Token → ℕ → A → ℕ → Out ℕ A) (fl : A → List ℕ) (kinds places values : List ℕ) (at : ℕ) (old : List ℕ) (n : ℕ) (new : List ℕ) (p q : ℕ) : Type 0 where
-  pub moved : Moved least (length kinds) at n p q
+pub record Reads-on (least : ℕ) {A : Type 0} (G : List Token → Out ℕ A) (K : List Token → ℕ → A → ℕ → Out ℕ A) (fl : A → List ℕ) (tokens : List ℕ) (at : ℕ) (old : List ℕ) (n : ℕ) (new : List ℕ) (p q : ℕ) : Type 0 where
+  pub moved : Moved least (token-count tokens) at n p q
   pub kept : length new ≡ length old
-  pub so-far : (ts : List Token) → Held kinds places values ts → So-far (G ts) (K ts) fl (length ts) old n new p q
+  pub so-far : (ts : List Token) → Holds-only tokens ts → So-far (G ts) (K ts) fl (length ts) old n new p q
 
 -- The kind of a token that was expected.
-pub as-expected : {kind k place at size p q : ℕ} {r : Reading} → Expects kind k place at size r → r ≡ Done p q → k ≡ kind
+pub as-expected : {kind : ℕ} {tokens : List ℕ} {at size p q : ℕ} {r : Stage} → Expects kind tokens at size r → r ≡ Done p q → kind-at tokens at ≡ kind
 as-expected {p = p} {q = q} x e = x .done p q e .0
 
 -- The answers.
-module _ {least : ℕ} {A : Type 0} {G : List Token → Out ℕ A} {fl : A → List ℕ} {K P W : List ℕ} {at : ℕ} {old : List ℕ} {n : ℕ} {new : List ℕ} {r : Reading} where
-  pub shows-done : {p q : ℕ} → r ≡ Done p q → Moved least (length K) at n p q → ((ts : List Token) → Held K P W ts → Read (G ts) fl old n new p q)
-      → Shows least G fl K P W at old n new r
+module _ {least : ℕ} {A : Type 0} {G : List Token → Out ℕ A} {fl : A → List ℕ} {T : List ℕ} {at : ℕ} {old : List ℕ} {n : ℕ} {new : List ℕ} {r : Stage} where
+  pub shows-done : {p q : ℕ} → r ≡ Done p q → Moved least (token-count T) at n p q → ((ts : List Token) → Holds-only T ts → Read (G ts) fl old n new p q)
+      → Reads-as least G fl T at old n new r
   shows-done {p} {q} is moved read = record {
     moved = λ p′ q′ e. let a : p ≡ p′ = cc in let b : q ≡ q′ = cc in rw (← a, ← b) moved;
     done = λ p′ q′ e. let a : p ≡ p′ = cc in let b : q ≡ q′ = cc in rw (← a, ← b) read;
     refused = λ c p′ e. let z : _≡_ {A = ℕ} 0 1 = cc in absurd (omega arith);
   }
 
-  pub shows-refused : {c : Refusal} {p : ℕ} → r ≡ Refused c p → ((ts : List Token) → Held K P W ts → G ts ≡ refused c p) → Shows least G fl K P W at old n new r
+  pub shows-refused : {c : Refusal} {p : ℕ} → r ≡ Refused c p → ((ts : List Token) → Holds-only T ts → G ts ≡ refused c p) → Reads-as least G fl T at old n new r
   shows-refused {c} {p} is said = record {
     moved = λ p′ q e. let z : _≡_ {A = ℕ} 0 1 = cc in absurd (omega arith);
     done = λ p′ q e. let z : _≡_ {A = ℕ} 0 1 = cc in absurd (omega arith);
@@ -158,13 +163,13 @@ module _ {least : ℕ} {A : Type 0} {G : List Token → Out ℕ A} {fl : A → L
 
   -- A refusal is handed up as it is.
   pub hands-up : {least′ : ℕ} {B : Type 0} {G′ : List Token → Out ℕ B} {fl′ : B → List ℕ} {at′ : ℕ} {old′ : List ℕ} {n′ : ℕ} {new′ : List ℕ} {c : Refusal} {p : ℕ}
-      → Shows least′ G′ fl′ K P W at′ old′ n′ new′ r → r ≡ Refused c p → ((ts : List Token) → Held K P W ts → G′ ts ≡ refused c p → G ts ≡ refused c p)
-      → Shows least G fl K P W at old n new r
+      → Reads-as least′ G′ fl′ T at′ old′ n′ new′ r → r ≡ Refused c p → ((ts : List Token) → Holds-only T ts → G′ ts ≡ refused c p → G ts ≡ refused c p)
+      → Reads-as least G fl T at old n new r
   hands-up {c = c} {p = p} s e f = shows-refused e (λ ts h. f ts h (s .refused c p e ts h))
 
   -- What is read the same way shows the same.
-  pub shows-alike : {least′ : ℕ} {G′ : List Token → Out ℕ A} {at′ : ℕ} → Shows least′ G′ fl K P W at′ old n new r → (at ≤ at′) × (at + least ≤ at′ + least′) → ((ts : List Token) → Held K P W ts → G ts ≡ G′ ts)
-      → Shows least G fl K P W at old n new r
+  pub shows-alike : {least′ : ℕ} {G′ : List Token → Out ℕ A} {at′ : ℕ} → Reads-as least′ G′ fl T at′ old n new r → (at ≤ at′) × (at + least ≤ at′ + least′) → ((ts : List Token) → Holds-only T ts → G ts ≡ G′ ts)
+      → Reads-as least G fl T at old n new r
   shows-alike s le alike = record {
     moved = λ p q e. let m = s .moved p q e in record { on = omega arith; within = m .within; grown = m .grown; few = omega arith };
     done = λ p q e ts h. let d = s .done p q e ts h in record { what = d .what; is = alike ts h ∙ d .is; wrote = d .wrote };
@@ -172,34 +177,34 @@ module _ {least : ℕ} {A : Type 0} {G : List Token → Out ℕ A} {fl : A → L
   }
 
   -- What is read on from an answer.
-  pub shows-then : {least′ : ℕ} {B : Type 0} {G′ : List Token → Out ℕ B} {fl′ : B → List ℕ} {at′ : ℕ} {old′ : List ℕ} {n′ : ℕ} {new′ : List ℕ} {r′ : Reading} {p q p′ q′ : ℕ}
-      → Shows least′ G′ fl′ K P W at′ old′ n′ new′ r′ → r′ ≡ Done p′ q′ → r ≡ Done p q → (Moved least′ (length K) at′ n′ p′ q′ → Moved least (length K) at n p q)
-      → ((ts : List Token) → Held K P W ts → Moved least′ (length K) at′ n′ p′ q′ → Read (G′ ts) fl′ old′ n′ new′ p′ q′ → Read (G ts) fl old n new p q)
-      → Shows least G fl K P W at old n new r
+  pub shows-then : {least′ : ℕ} {B : Type 0} {G′ : List Token → Out ℕ B} {fl′ : B → List ℕ} {at′ : ℕ} {old′ : List ℕ} {n′ : ℕ} {new′ : List ℕ} {r′ : Stage} {p q p′ q′ : ℕ}
+      → Reads-as least′ G′ fl′ T at′ old′ n′ new′ r′ → r′ ≡ Done p′ q′ → r ≡ Done p q → (Moved least′ (token-count T) at′ n′ p′ q′ → Moved least (token-count T) at n p q)
+      → ((ts : List Token) → Holds-only T ts → Moved least′ (token-count T) at′ n′ p′ q′ → Read (G′ ts) fl′ old′ n′ new′ p′ q′ → Read (G ts) fl old n new p q)
+      → Reads-as least G fl T at old n new r
   shows-then {p′ = p′} {q′ = q′} s e is move read = let m = s .moved p′ q′ e in shows-done is (move m) (λ ts h. read ts h m (s .done p′ q′ e ts h))
 
   -- A token of another kind than one that has to stand there.
-  pub shows-unexpected : {kind p q x : ℕ} {c : Refusal} → Expects kind (getD K p 0) (getD P p 0) p q r → r ≡ Refused c x
-      → ((ts : List Token) → Held K P W ts → (getD K p 0 ≡ kind → ⊥) → G ts ≡ refused NotAllowed (getD P p 0)) → Shows least G fl K P W at old n new r
+  pub shows-unexpected : {kind p q x : ℕ} {c : Refusal} → Expects kind T p q r → r ≡ Refused c x
+      → ((ts : List Token) → Holds-only T ts → (kind-at T p ≡ kind → ⊥) → G ts ≡ refused NotAllowed (place-at T p)) → Reads-as least G fl T at old n new r
   shows-unexpected {x = x} {c = c} e is none = let y = e .refused c x is in shows-refused is (λ ts h. rw (y .1, y .2) (none ts h (y .0)))
 
   -- What is read on by a token of one kind.
-  module _ {B : Type 0} {G′ : List Token → Out ℕ B} {fl′ : B → List ℕ} {r′ : Reading} {p q kind : ℕ} (f : B → A) where
-    pub shows-expect : ((b : B) → fl (f b) ≡ fl′ b) → Ready K P W at old n → Shows least G′ fl′ K P W at old n new r′ → r′ ≡ Done p q
-        → Expects kind (getD K p 0) (getD P p 0) p q r → 0 < kind
-        → ((ts : List Token) → Held K P W ts → p < length K → (b : B) → G′ ts ≡ ok b p → getD K p 0 ≡ kind → G ts ≡ ok (f b) (p + 1))
-        → ((ts : List Token) → Held K P W ts → p < length K → (b : B) → G′ ts ≡ ok b p → (getD K p 0 ≡ kind → ⊥) → G ts ≡ refused NotAllowed (getD P p 0))
-        → Shows least G fl K P W at old n new r
+  module _ {B : Type 0} {G′ : List Token → Out ℕ B} {fl′ : B → List ℕ} {r′ : Stage} {p q kind : ℕ} (f : B → A) where
+    pub shows-expect : ((b : B) → fl (f b) ≡ fl′ b) → Ready-to-read T at old n → Reads-as least G′ fl′ T at old n new r′ → r′ ≡ Done p q
+        → Expects kind T p q r → 0 < kind
+        → ((ts : List Token) → Holds-only T ts → p < token-count T → (b : B) → G′ ts ≡ ok b p → kind-at T p ≡ kind → G ts ≡ ok (f b) (p + 1))
+        → ((ts : List Token) → Holds-only T ts → p < token-count T → (b : B) → G′ ts ≡ ok b p → (kind-at T p ≡ kind → ⊥) → G ts ≡ refused NotAllowed (place-at T p))
+        → Reads-as least G fl T at old n new r
     shows-expect words ready s e x more read none = let m = s .moved p q e in record {
-      moved = λ p′ q′ e′. let y = x .done p′ q′ e′ in omega (arith, past ready (m .within) (y .0) more);
+      moved = λ p′ q′ e′. let y = x .done p′ q′ e′ in omega (arith, past (ready .text) (m .within) (y .0) more);
       done = λ p′ q′ e′ ts h. let y = x .done p′ q′ e′ in let d = s .done p q e ts h in
           rw (y .1, y .2) (record { what = f (d .what); is = read ts h (m .within) (d .what) (d .is) (y .0); wrote = rw (words (d .what)) (d .wrote) });
       refused = λ c p′ e′ ts h. let y = x .refused c p′ e′ in let d = s .done p q e ts h in rw (y .1, y .2) (none ts h (m .within) (d .what) (d .is) (y .0));
     }
 
 -- One token and its unit.
-pub shows-leaf : {A : Type 0} {G : List Token → Out ℕ A} {fl : A → List ℕ} {K P W : List ℕ} {at : ℕ} {old : List ℕ} {n : ℕ} {new : List ℕ} {r : Reading} {tag a b : ℕ}
-    → (r ≡ Done (at + 1) (n + 3)) × Appends old n new (n + 3) (unit tag a b) → at + 1 < length K
-    → ((ts : List Token) → Held K P W ts → Leaf fl (G ts) (at + 1) tag a b) → Shows 1 G fl K P W at old n new r
-shows-leaf node on read = shows-done (node .0) (record { on = omega arith; within = on; grown = omega arith; few = omega arith })
-    (λ ts h. let l = read ts h in record { what = l .what; is = l .is; wrote = rw (l .words) (node .1) })
+pub shows-leaf : {A : Type 0} {G : List Token → Out ℕ A} {fl : A → List ℕ} {T : List ℕ} {at : ℕ} {old : List ℕ} {n : ℕ} {new : List ℕ} {r : Stage} {tag a b : ℕ}
+    → Puts-node tag a b (at + 1) old n new r → at + 1 < token-count T
+    → ((ts : List Token) → Holds-only T ts → Leaf fl (G ts) (at + 1) tag a b) → Reads-as 1 G fl T at old n new r
+shows-leaf node on read = shows-done (node .is) (record { on = omega arith; within = on; grown = omega arith; few = omega arith })
+    (λ ts h. let l = read ts h in record { what = l .what; is = l .is; wrote = rw (l .words) (node .wrote) })

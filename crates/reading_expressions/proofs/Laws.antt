@@ -6,7 +6,7 @@ use mathlib.Core.Bool.{Bool, true, false, _||_}
 use mathlib.Core.List.{List, [], _∷_, map}
 use mathlib.Core.Option.{Option, none, some}
 use native.Mathlib.Numerals.{add-one, sub-one}
-use native.Mathlib.Nat.{zero-add, lt-of-not-le}
+use native.Mathlib.Nat.{lt-of-not-le}
 use native.Mathlib.Omega.{arith}
 use lib.Dec.{eqb}
 use lib.ListN.{length, getD}
@@ -16,11 +16,15 @@ use Rattle.meaning.specs.declared.Refusal.{Refusal}
 use Rattle.meaning.specs.declared.Refusal.the-variants.{NotAllowed, TooDeep}
 use Rattle.meaning.specs.Codes.{Out, ok, refused, after, give, repeat, option, if_then_else_, _among_}
 use Rattle.meaning.specs.Tokens.{Token, the, words, marks, numbered, reserved, signs}
-use Rattle.meaning.specs.Tree.{Unary, neg, inv, not, Binary, table, unary-table, levels, Expr, number, boolean, name, current-mask, unary, binary}
+use Rattle.meaning.specs.declared.Unary.{Unary}
+use Rattle.meaning.specs.declared.Unary.the-variants.{Neg as neg, Inv as inv, Not as not}
+use Rattle.meaning.specs.declared.Binary.{Binary}
+use Rattle.meaning.specs.Tree.{table, unary-table, levels, Expr, number, boolean, name, current-mask, unary, binary}
 use Rattle.meaning.specs.Reading.{Reads, After, _⇒_, operator, look, next, choose, expect, as-long, more, binaries, operand, no-room, closed, unaries, expression, parenthesised}
+use Rattle.layout.specs.Tokens.{kind-at, place-at, value-at}
 use Rattle.layout.specs.Words.{unit, flat, boolean-tag, unary-tag, binary-tag}
-use Rattle.reading_expressions.proofs.Answers.{Leaf, So-far, turn-left, appends-then}
-use Rattle.reading_expressions.specs.Contract.{Held, Appends, Read, token-at, from-level, signs-at, some?, joins-at, Level}
+use Rattle.reading_expressions.proofs.Answers.{Leaf, held-count, So-far, turn-left, appends-then}
+use Rattle.reading_expressions.specs.Contract.{Holds-only, token-count, Appends, Read, token-at, from-level, signs-at, some?, joins-at, Level}
 
 -- The token at a position: what it is, its place, and its value.
 pub record Seen (ts : List Token) (at k p v : ℕ) : Type 0 where
@@ -30,10 +34,10 @@ pub record Seen (ts : List Token) (at k p v : ℕ) : Type 0 where
   pub end : k ≡ 2 → v ≡ p + length ((token-at ts at) .spelled)
 
 -- It is what the buffers have there.
-pub seen : {K P W : List ℕ} {ts : List Token} {at : ℕ} → Held K P W ts → at < length K → Seen ts at (getD K at 0) (getD P at 0) (getD W at 0)
+pub seen : {T : List ℕ} {ts : List Token} {at : ℕ} → Holds-only T ts → at < token-count T → Seen ts at (kind-at T at) (place-at T at) (value-at T at)
 unfolding the words marks numbered reserved signs
 seen {at = at} h lt =
-    let t = h .holds .row at (omega (arith, h .whole)) in
+    let t = h .holds .row at (omega (arith, held-count h)) in
     record { is = sym (t .is); place = sym (t .at); value = λ e. sym (t .worth (sym (t .is) ∙ e)); end = λ e. rw (t .at) (t .end (sym (t .is) ∙ e)) }
 
 -- What a unary operator's operand is, one level deeper.
@@ -65,15 +69,18 @@ signed k e = go (neg ∷ inv ∷ not ∷ []) e
         either true is e rest = record { sign = o; is = eqb-true k (the ((unary-table o) .0)) is }
         either false is e rest = rest e
 
--- It is not the end of the text.
-pub sign-above : (k : ℕ) → signs-at k ≡ true → 0 < k
+-- It is not the end of the text, and its tag is a small number.
+pub sign-bounds : (k : ℕ) → signs-at k ≡ true → (0 < k) × (k < 128)
 unfolding the numbered reserved signs words marks unary-table
-sign-above k e = go (signed k e .sign) (signed k e .is)
+sign-bounds k e = go (signed k e .sign) (signed k e .is)
   where
-    go : (o : Unary) → k ≡ the ((unary-table o) .0) → 0 < k
+    go : (o : Unary) → k ≡ the ((unary-table o) .0) → (0 < k) × (k < 128)
     go neg e = omega arith
     go inv e = omega arith
     go not e = omega arith
+
+pub sign-above : (k : ℕ) → signs-at k ≡ true → 0 < k
+sign-above k e = sign-bounds k e .0
 
 pub no-sign : (k : ℕ) → signs-at k ≡ false → (eqb k 63 ≡ false) × (eqb k 68 ≡ false) × (eqb k 69 ≡ false)
 unfolding signs-at the numbered reserved signs words marks unary-table
@@ -127,11 +134,12 @@ module _ {ts : List Token} {at k p v : ℕ} (r : ℕ) (t : Seen ts at k p v) whe
       let u = no-sign k unsigned in rw (unaries-is ts r at, unaries-is ts 0 at, t .is, u .0, u .1, u .2, ne-eqb k 55 shut)
 
   -- Any other token.
-  pub read-none : (k ≡ 1 → ⊥) → (k ≡ 24 → ⊥) → (k ≡ 25 → ⊥) → (k ≡ 2 → ⊥) → (k ≡ 23 → ⊥) → signs-at k ≡ false → (k ≡ the "(" → ⊥) → unaries ts r at ≡ refused NotAllowed p
+  -- Any other token, of a kind w, is refused.
+  pub read-none : {w : ℕ} → w ≡ k → (w ≡ 1 → ⊥) → (w ≡ 24 → ⊥) → (w ≡ 25 → ⊥) → (w ≡ 2 → ⊥) → (w ≡ 23 → ⊥) → signs-at k ≡ false → (k ≡ the "(" → ⊥) → unaries ts r at ≡ refused NotAllowed p
   unfolding operand choose look next _⇒_ the numbered reserved signs words marks unary-table
-  read-none a b c d e unsigned shut =
+  read-none {w} is a b c d e unsigned shut =
       let u = no-sign k unsigned in
-      rw (unaries-is, t .is, u .0, u .1, u .2, ne-eqb k 1 a, ne-eqb k 24 b, ne-eqb k 25 c, ne-eqb k 2 d, ne-eqb k 23 e, ne-eqb k 55 shut, t .place)
+      rw (unaries-is, t .is, u .0, u .1, u .2, ne-eqb k 55 shut, ← is, ne-eqb w 1 a, ne-eqb w 24 b, ne-eqb w 25 c, ne-eqb w 2 d, ne-eqb w 23 e, t .place)
 
 -- A token that has to be of one kind.
 module _ {ts : List Token} {at k p v : ℕ} (s : String) (t : Seen ts at k p v) where
@@ -228,18 +236,18 @@ which l k e = go (operator k (getD levels l [])) refl e
 -- It is not the end of the text.
 tag-above : (o : Binary) → 0 < binary-tag o
 unfolding binary-tag table the numbered reserved signs words marks
-tag-above Binary.or = omega arith
-tag-above Binary.xor = omega arith
-tag-above Binary.and = omega arith
-tag-above Binary.eq = omega arith
-tag-above Binary.ne = omega arith
-tag-above Binary.lt = omega arith
-tag-above Binary.gt = omega arith
-tag-above Binary.le = omega arith
-tag-above Binary.ge = omega arith
-tag-above Binary.add = omega arith
-tag-above Binary.sub = omega arith
-tag-above Binary.mul = omega arith
+tag-above Binary.Or = omega arith
+tag-above Binary.Xor = omega arith
+tag-above Binary.And = omega arith
+tag-above Binary.Eq = omega arith
+tag-above Binary.Ne = omega arith
+tag-above Binary.Lt = omega arith
+tag-above Binary.Gt = omega arith
+tag-above Binary.Le = omega arith
+tag-above Binary.Ge = omega arith
+tag-above Binary.Add = omega arith
+tag-above Binary.Sub = omega arith
+tag-above Binary.Mul = omega arith
 
 pub joins-above : (l k : ℕ) → joins-at l k ≡ true → 0 < k
 joins-above l k e = let o = which l k e in omega (arith, tag-above (o .what), o .sign)
@@ -295,14 +303,14 @@ module _ (l r : ℕ) (ts : List Token) where
         u .2 ∙ rw (joins-more t l (from-level ts (l + 1) r) (u .0) (s .what) (which l k joins), e)
 
     pub level-goes-on : {mid out : List ℕ} {p′ q′ x : ℕ} → joins-at l k ≡ true → p < p′ → Read (from-level ts (l + 1) r (p + 1)) flat new q mid p′ q′
-        → Appends mid q′ out x (unit (0 + k) pl 0) → So-far o (joined l r ts) flat (length ts) old n out p′ x
+        → Appends mid q′ out x (unit k pl 0) → So-far o (joined l r ts) flat (length ts) old n out p′ x
     unfolding flat
     level-goes-on joins on d put = let u = turn-left s lt in let w = which l k joins in record {
       turns = u .0;
       what = binary pl (w .what) (s .what) (d .what);
       enough = omega (arith, u .1);
       is = u .2 ∙ rw (joins-more t l (from-level ts (l + 1) r) (u .0) (s .what) w, d .is);
-      wrote = appends-then (s .wrote) (appends-then (d .wrote) (rw (zero-add, ← w .sign) at put));
+      wrote = appends-then (s .wrote) (appends-then (d .wrote) (rw (← w .sign) at put));
     }
 
 -- The levels by their numbers, and one more, which has no operators.

@@ -14,7 +14,9 @@ parenthesised-requires : tie.Need-parenthesised-requires
 parenthesised-requires c κs = ready-behind (search) (as-expected (c .before .before .before .expect .ensures) (c .before .enum-told .given .1)) (omega arith)
 
 returns-2 : tie.Need-returns-2
-returns-2 c = shows-alike (c .before .before .parenthesised .ensures) (omega arith) (λ ts h. law.condition-is _ (seen h (search needs)) (search as-expected))
+returns-2 c =
+    let sign = c .before .before .before .before in
+    shows-alike (c .before .before .parenthesised .ensures) (omega arith) (λ ts h. law.condition-is _ (seen h (search needs)) (as-expected (sign .before .before .expect .ensures) (sign .enum-told .given .1)))
 
 pub condition-spec : {M : Type 1} → statement M
 condition-spec =

@@ -6,25 +6,22 @@ use Rattle.reading.proofs.read.Statement.{statement}
 use Rattle.reading.proofs.read.Tie as tie
 
 statements-requires : tie.Need-statements-requires
-statements-requires c κs =
-    let start = c .before .before .before .before .before in
-    law.ready-first (start .pre)
+statements-requires c κs = law.ready-first (search)
 
 returns : tie.Need-returns
 returns c =
-    let statements′ = c .before .before .before .before .statements in
-    law.tells-refused (c .enum-told .given .1) (λ ts h. law.read-refused ts (statements′ .ensures .refused _ _ (c .enum-told .given .1) ts h))
+    let all = c .before .before .before .before .statements .ensures in
+    law.tells-refused (c .enum-told .given .1) (λ ts h. law.read-refused ts (all .refused _ _ (c .enum-told .given .1) ts h))
 
 expect-requires : tie.Need-expect-requires
 expect-requires c κs =
-    let statements′ = c .before .before .before .before .before .statements in
-    let m = statements′ .ensures .moved _ _ (c .before .all .given .1) in omega arith
+    let all = c .before .before .before .before .before in
+    let m = all .statements .ensures .moved _ _ (c .before .all .given .1) in omega (arith, all .before .before .before .before .pre .text)
 
 returns-2 : tie.Need-returns-2
 returns-2 c =
-    let start = c .before .before .before .before .before .before .before .before .before .before .before .before in
-    let statements′ = c .before .before .before .before .before .before .statements in
-    law.tells-end _ (start .pre) (statements′ .kept .1 .1 .1 .1 .1 .1 .0) (statements′ .ensures) (c .before .before .all .given .1) (c .expect .ensures)
+    let all = c .before .before .before .before .before .before in
+    law.tells-end _ (all .before .before .before .before .pre) (all .statements .kept .1 .1 .1 .1 .0) (all .statements .ensures) (c .before .before .all .given .1) (c .expect .ensures)
 
 pub read-spec : {M : Type 1} → statement M
 read-spec =

@@ -16,56 +16,54 @@ expression-requires c κs = ready-behind (search) (as-expected (c .before .befor
 
 returns-2 : tie.Need-returns-2
 returns-2 c =
-    let expression′ = c .before .before .before .before .expression in
-    hands-up (expression′ .ensures) (c .enum-told3 .given .1) (λ ts h said. law.value-refused _ (seen h (search needs)) (search as-expected) said)
+    let right = c .before .before .before .before in
+    let sign = right .before .before in
+    hands-up (right .expression .ensures) (c .enum-told3 .given .1)
+    (λ ts h said. law.value-refused _ (seen h (search needs)) (as-expected (sign .before .before .expect .ensures) (sign .enum-told .given .1)) said)
 
 expect-requires-2 : tie.Need-expect-requires-2
 expect-requires-2 c κs =
-    let expression′ = c .before .before .before .before .before .expression in
-    let m = expression′ .ensures .moved _ _ (c .before .right .given .1) in omega arith
+    let expression′ = c .before .before .before .before .before in
+    let m = expression′ .expression .ensures .moved _ _ (c .before .right .given .1) in omega (arith, expression′ .before .before .before .before .before .before .before .before .pre)
 
 returns-3 : tie.Need-returns-3
 returns-3 c =
-    let expect′ = c .before .before .before .before .before .before .before .before .before .before .before .before .expect in
-    let enum-told′ = c .before .before .before .before .before .before .before .before .before .before .enum-told in
-    let expression′ = c .before .before .before .before .before .before .before .before .expression in
-    let right′ = c .before .before .before .before .right in
-    let right = expression′ .ensures in
-    let m = right .moved _ _ (right′ .given .1) in
-    shows-unexpected (c .before .before .expect2 .ensures) (c .enum-told5 .given .1)
-    (λ ts h no. law.value-open _ (seen h (search needs)) (as-expected (expect′ .ensures) (enum-told′ .given .1)) (seen h (m .within)) (right .done _ _ (right′ .given .1) ts h .is) no)
+    let right = c .before .before .before .before in
+    let expression′ = right .before .before .before .before in
+    let sign = expression′ .before .before in
+    let start = sign .before .before .before .before .before .before in
+    let is = as-expected (sign .before .before .expect .ensures) (sign .enum-told .given .1) in
+    let m = expression′ .expression .ensures .moved _ _ (right .right .given .1) in
+    shows-unexpected (c .before .before .expect2 .ensures) (c .enum-told4 .given .1)
+    (λ ts h no. law.value-open _ (seen h (start .pre .within)) is (seen h (m .within)) (expression′ .expression .ensures .done _ _ (right .right .given .1) ts h .is) no)
 
 put-unit-requires : tie.Need-put-unit-requires
 put-unit-requires c κs =
-    let start = c .before .before .before .before .before .before .before .before .before .before .before .before .before .before .before .before .before .before .before in
-    let expression′ = c .before .before .before .before .before .before .before .before .before .before .expression in
-    let right′ = c .before .before .before .before .before .before .right in
-    let m = expression′ .ensures .moved _ _ (right′ .given .1) in omega (arith, start .pre)
-
-add-t17 : tie.Need-add-t17
-add-t17 c =
-    let start = c .before .before .before .before .before .before .before .before .before .before .before .before .before .before .before .before .before .before .before .before .before .before in
-    let expression′ = c .before .before .before .before .before .before .before .before .before .before .before .before .before .expression in
-    let right′ = c .before .before .before .before .before .before .before .before .before .right in
-    let m = expression′ .ensures .moved _ _ (right′ .given .1) in omega (arith, start .pre)
+    let right = c .before .before .before .before .before .before in
+    let expression′ = right .before .before .before .before in
+    let start = expression′ .before .before .before .before .before .before .before .before in
+    let m = expression′ .expression .ensures .moved _ _ (right .right .given .1) in omega (arith, start .pre)
 
 returns-4 : tie.Need-returns-4
 returns-4 c =
-    let start = c .before .before .before .before .before .before .before .before .before .before .before .before .before .before .before .before .before .before .before .before .before .before in
-    let expect′ = c .before .before .before .before .before .before .before .before .before .before .before .before .before .before .before .before .before .expect in
-    let enum-told′ = c .before .before .before .before .before .before .before .before .before .before .before .before .before .before .before .enum-told in
-    let expression′ = c .before .before .before .before .before .before .before .before .before .before .before .before .before .expression in
-    let right′ = c .before .before .before .before .before .before .before .before .before .right in
-    let expect2′ = c .before .before .before .before .before .before .before .expect2 in
-    let enum-told4′ = c .before .before .before .before .before .enum-told4 in
-    let close = as-expected (expect2′ .ensures) (enum-told4′ .given .1) in
-    shows-then (expression′ .ensures) (right′ .given .1) refl (λ m. omega (arith, past (start .pre) (m .within) close (omega arith)))
-    (λ ts h m d. law.value-read _ (seen h (search needs)) (as-expected (expect′ .ensures) (enum-told′ .given .1)) (seen h (m .within)) close (omega arith) (omega arith) d (c .before .before .put-unit .ensures))
+    let close = c .before .before .before .before .before in
+    let right = close .before .before .before .before in
+    let expression′ = right .before .before .before .before in
+    let sign = expression′ .before .before in
+    let place = sign .before .before .before in
+    let start = place .before .before .before in
+    let is = as-expected (sign .before .before .expect .ensures) (sign .enum-told .given .1) in
+    let ended = close .before .before .expect2 .ensures .done _ _ (close .close .given .1) in
+    let put = rw (place .place .ensures) at (c .before .before .put-unit .ensures) in
+    shows-then (expression′ .expression .ensures) (right .right .given .1) refl (λ m. omega (arith, past (start .pre .text) (m .within) (ended .0) (omega arith), ended .1))
+    (λ ts h m d. rw (ended .1)
+    (law.value-read _ (seen h (start .pre .within)) is (seen h (m .within)) (ended .0) (omega (arith, start .pre)) (omega (arith, start .pre)) d put))
 
 pub value-spec : {M : Type 1} → statement M
 value-spec =
     tie.close
     (tie.spec
+    (λ c κs. search needs)
     (λ c κs. search needs)
     (λ c. search needs)
     (λ c. search needs)
@@ -82,9 +80,6 @@ value-spec =
     (λ c. search needs)
     (λ c. search needs)
     returns-3
-    (λ c. search needs)
-    (λ c. search needs)
     put-unit-requires
-    add-t17
     (λ c. search needs)
     returns-4)

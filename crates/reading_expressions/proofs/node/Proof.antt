@@ -13,4 +13,4 @@ node-spec =
     (λ c κs. search needs)
     (λ c. search needs)
     (λ c. search needs)
-    (λ c. (refl, rw (c .before .before .put-unit .ensures) (appends-sets (omega arith)))))
+    (λ c. record { is = refl; wrote = rw (c .before .before .put-unit .ensures) (appends-sets (omega arith)) }))

@@ -10,12 +10,8 @@ pub put-operator-spec : {M : Type 1} → statement M
 put-operator-spec =
     tie.close
     (tie.spec
-    (λ c. search needs)
-    (λ c. omega (arith, c .shared-slice-known3 .given (c .before .before .before .before .before .args .at)))
-    (λ c. omega (arith, c .shared-slice-known3 .given (c .before .before .before .before .before .args .at)))
-    (λ c. search needs)
-    (λ c. search needs)
+    (λ c κs. search needs)
     (λ c κs. search needs)
     (λ c. search needs)
     (λ c. search needs)
-    (λ c. (refl, rw (c .before .before .put-unit .ensures) (appends-sets (omega arith)))))
+    (λ c. (refl, rw (c .before .before .put-unit .ensures, c .before .before .before .place .ensures) (appends-sets (omega arith)))))

@@ -1,6 +1,5 @@
 -- `signs` finds the unary operators.
 use mathlib.Core.Bool.{or-assoc, or-false}
-use borrow.Author.Needs.{needs}
 use Rattle.meaning.specs.Tokens.{the, words, marks, numbered, reserved, signs}
 use Rattle.meaning.specs.Tree.{unary-table}
 use Rattle.reading_expressions.specs.Contract.{signs-at}
@@ -9,4 +8,4 @@ use Rattle.reading_expressions.proofs.signs.Tie as tie
 
 pub signs-spec : {M : Type 1} → statement M
 unfolding signs-at the words marks numbered reserved signs unary-table
-signs-spec = tie.close (tie.spec (λ c. search needs) (λ c. simp (or-assoc, or-false)))
+signs-spec = tie.close (tie.spec (λ c. simp (or-assoc, or-false)))
