@@ -1,51 +1,62 @@
 -- What the answers for programs say: one definition turns each into the definition's outcome.
-use Prim.Native.Nat.{ℕ, _≤_}
+use Prim.Native.Nat.{ℕ, _+_, _*_, _≤_}
 use mathlib.Core.Path.{_≡_}
 use mathlib.Core.List.{List}
 use lib.ListN.{length, take}
-use Rattle.meaning.specs.declared.Refusal.the-variants.{UnknownName}
-use Rattle.meaning.specs.Codes.{Out, ok, refused}
-use Rattle.meaning.specs.Tree.{Stmts}
+use Rattle.meaning.specs.Codes.{Out, ok, refused, text-limit, nesting-limit}
+use Rattle.meaning.specs.Tree.{Stmt, Stmts}
 use Rattle.meaning.specs.Program.{Program}
-use Rattle.meaning.specs.Memory.{Declarations, need}
-use Rattle.meaning.specs.Typing.{typed-program}
+use Rattle.meaning.specs.Memory.{Declarations}
+use Rattle.meaning.specs.Typing.{scope, typed-statement, typed-statements, typed-program}
 use Rattle.layout.specs.Code.{program-words}
+use Rattle.layout.specs.Sizes.{tree-limit, table-room}
+use Rattle.layout.specs.Stack.{slot-words}
 use Rattle.layout.specs.Table.{entries}
-use Rattle.layout.specs.Sound.{stack-limit}
+use Rattle.laws.specs.Sound.{stack-limit}
+use Rattle.typing_expressions.specs.declared.Point.{Point}
 use Rattle.typing_expressions.specs.Rows.{Rows}
-use Rattle.typing_simple.specs.declared.Walked.{Walked}
-use Rattle.typing_simple.specs.declared.Walked.the-variants.{On, Refused}
-use Rattle.typing.specs.declared.Judged.{Judged}
-use Rattle.typing.specs.declared.Judged.the-variants as judged
+use Rattle.layout.specs.declared.Stage.{Stage}
+use Rattle.typing_simple.specs.Answers.{Walks}
+use Rattle.typing.specs.Shapes.{Statement, Statements}
+use Rattle.layout.specs.declared.Stage.the-variants.{Done, Refused}
 
--- A refusal of a statement is the program's.
-unfoldable pub refused-up : Walked → Judged
-refused-up (On n z) = judged.Refused UnknownName 0
-refused-up (Refused c p) = judged.Refused c p
+-- The sequence whose words are the tree, of at most `nest` levels, was typed at a point as the definition says.
+abbrev pub Types-sequence : ℕ → Point → List ℕ → List ℕ → List ℕ → List ℕ → List ℕ → List ℕ → Stage → Type 0
+Types-sequence nest at text tree table table′ code code′ r =
+    (l : Stmts) → Statements nest text tree l
+    → Walks text table′ (take (at .size) code) code′ (at .count) (at .size + length tree) r (typed-statements (at .context) l (entries text table (at .count)))
+
+-- So was the statement, in a scope of its own.
+abbrev pub Types-branch : ℕ → Point → List ℕ → List ℕ → List ℕ → List ℕ → List ℕ → List ℕ → Stage → Type 0
+Types-branch nest at text tree table table′ code code′ r =
+    (s : Stmt) → Statement nest text tree s
+    → Walks text table′ (take (at .size) code) code′ (at .count) (at .size + length tree) r (scope (typed-statement (at .context) s) (entries text table (at .count)))
+
+-- What is lent to typing for a whole program.
+pub record Program-room (text tree table code stack : List ℕ) : Type 0 where
+  pub short : length text ≤ text-limit
+  pub few : length tree ≤ tree-limit
+  pub rows-room : table-room ≤ length table
+  pub code-room : length tree ≤ length code
+  pub stack-room : stack-limit * slot-words ≤ length stack
 
 -- The answer for a program P.
-unfoldable pub judged-out : Judged → Program → List ℕ → List ℕ → Out Declarations Program
-judged-out (judged.Accepted n m z) P text table = ok P (entries text table n)
-judged-out (judged.Refused c p) P text table = refused c p
+unfoldable pub program-out : Stage → Program → List ℕ → List ℕ → Out Declarations Program
+program-out (Done n z) P text table = ok P (entries text table n)
+program-out (Refused c p) P text table = refused c p
 
--- What is lent to the judge.
-pub record Lent (text tree table code kinds lengths : List ℕ) : Type 0 where
-  pub short : length text ≤ 4096
-  pub few : length tree ≤ 12288
-  pub table-room : 384 ≤ length table
-  pub code-room : length tree ≤ length code
-  pub kinds-room : stack-limit ≤ length kinds
-  pub lengths-room : stack-limit ≤ length lengths
-
--- Of an accepted text: what it needs, that the table is as a run wants it, and its program's words, which the buffer has room for.
-pub record Accepts (text table code : List ℕ) (n m z : ℕ) (P : Program) : Type 0 where
-  pub needs : m ≡ need (entries text table n)
+-- Of an accepted text: that the table is as a run wants it, and its program's words, which the buffer has room for.
+pub record Accepts (text table code : List ℕ) (n z : ℕ) (P : Program) : Type 0 where
   pub rows : Rows text table n
   pub fits : z ≤ length code
   pub words : take z code ≡ program-words P
 
--- The program l was judged as the definition says.
-pub record Judges (text table code : List ℕ) (l : Stmts) (r : Judged) : Type 0 where
+-- The program l was typed as the definition says.
+pub record Typed-program (text table code : List ℕ) (l : Stmts) (r : Stage) : Type 0 where
   pub program : Program
-  pub is : judged-out r program text table ≡ typed-program l
-  pub accepted : (n m z : ℕ) → r ≡ judged.Accepted n m z → Accepts text table code n m z program
+  pub is : program-out r program text table ≡ typed-program l
+  pub accepted : (n z : ℕ) → r ≡ Done n z → Accepts text table code n z program
+
+-- The program whose words are the tree was typed so.
+abbrev pub Types-program : List ℕ → List ℕ → List ℕ → List ℕ → Stage → Type 0
+Types-program text tree table code r = (l : Stmts) → Statements nesting-limit text tree l → Typed-program text table code l r

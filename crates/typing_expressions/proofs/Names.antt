@@ -3,7 +3,7 @@ use Prim.Native.Nat.{ℕ, zero, suc, _+_, _-_, _≤_, _<_}
 use native.Mathlib.Omega.{arith}
 use native.Mathlib.Numerals.{add-one}
 use mathlib.Core.Path.{_≡_, refl, sym, _∙_}
-use mathlib.Core.Bool.{Bool, true, false, _&&_, and-false, true≢false}
+use mathlib.Core.Bool.{Bool, true, false, _&&_, and-false}
 use mathlib.Core.List.{List, [], _∷_, _++_}
 use mathlib.Core.Option.{some}
 use lib.Arith.{lt-of-le-ne}
@@ -15,33 +15,25 @@ use Rattle.meaning.specs.Codes.{if_then_else_}
 use Rattle.meaning.specs.Tokens.{equal, starts}
 use Rattle.meaning.specs.Memory.{Declared}
 use Rattle.meaning.specs.Typing.{find}
-use Rattle.layout.specs.Table.{word-of, entry, entries}
+use Rattle.layout.specs.Table.{word-of, entry, entries, place-column, end-column, open-column}
+use Rattle.laws.proofs.Tests.{and-l, and-r}
 use Rattle.typing_expressions.specs.declared.Found.the-variants.{At, Nothing}
-use Rattle.typing_expressions.specs.Rows.{Within, Rows, spelled, number-of, Finds}
-
--- ---- tests
-and-left : (a b : Bool) → (a && b) ≡ true → a ≡ true
-and-left true b h = refl
-and-left false b h = absurd (true≢false (sym h))
-
-and-right : (a b : Bool) → (a && b) ≡ true → b ≡ true
-and-right true b h = h
-and-right false b h = absurd (true≢false (sym h))
+use Rattle.typing_expressions.specs.Rows.{Spans, Rows, spelled, number-of, Finds}
 
 -- ---- bytes
-pub spelled-length : {text : List ℕ} {p e : ℕ} → Within text p e → length (spelled text p e) ≡ e - p
+pub spelled-length : {text : List ℕ} {p e : ℕ} → Spans text p e → length (spelled text p e) ≡ e - p
 spelled-length {text} {p} {e} w = length-take-le (e - p) (drop p text) (rw (length-drop p text) (omega (arith, w .order, w .inside)))
 
 -- The first k bytes of two names of one length agree.
-pub record Same (text : List ℕ) (p e q f k : ℕ) : Type 0 where
-  pub first : Within text p e
-  pub second : Within text q f
+pub record Same-bytes (text : List ℕ) (p e q f k : ℕ) : Type 0 where
+  pub first : Spans text p e
+  pub second : Spans text q f
   pub as-long : e - p ≡ f - q
   pub inside : p + k ≤ e
   pub on : starts (spelled text p e) (spelled text q f) ≡ starts (drop k (spelled text p e)) (drop k (spelled text q f))
 
-module _ {text : List ℕ} {p e q f k : ℕ} (s : Same text p e q f k) where
-  byte : (p e : ℕ) → Within text p e → p + k < e → drop k (spelled text p e) ≡ getD text (p + k) 0 ∷ drop (suc k) (spelled text p e)
+module _ {text : List ℕ} {p e q f k : ℕ} (s : Same-bytes text p e q f k) where
+  byte : (p e : ℕ) → Spans text p e → p + k < e → drop k (spelled text p e) ≡ getD text (p + k) 0 ∷ drop (suc k) (spelled text p e)
   byte p e w h =
       drop-cons (spelled text p e) k 0 (omega (arith, spelled-length w))
       ∙ rw (getD-take (e - p) (drop p text) k 0 (omega arith), getD-drop p text k 0)
@@ -51,7 +43,7 @@ module _ {text : List ℕ} {p e q f k : ℕ} (s : Same text p e q f k) where
   unfolding starts
   both h = s .on ∙ rw (byte p e (s .first) h, byte q f (s .second) (omega (arith, s .as-long, s .second .order)))
 
-  pub same-next : p + k < e → getD text (p + k) 0 ≡ getD text (q + k) 0 → Same text p e q f (k + 1)
+  pub same-next : p + k < e → getD text (p + k) 0 ≡ getD text (q + k) 0 → Same-bytes text p e q f (k + 1)
   same-next h b = record {
     first = s .first;
     second = s .second;
@@ -109,13 +101,13 @@ module _ {text table : List ℕ} {count p e i : ℕ} (s : Sought text table coun
 pub record Next (text table : List ℕ) (count p e i from to live : ℕ) : Type 0 where
   pub sought : Sought text table count p e i
   pub low : i < count
-  pub own : Within text from to
-  pub its : Within text p e
+  pub own : Spans text from to
+  pub its : Spans text p e
   pub at : entry text table i .name ≡ spelled text from to
   pub shown : entry text table i .open? ≡ eqb live 1
 
-pub next-row : {text table : List ℕ} {count p e i from to live : ℕ} → Rows text table count → Within text p e → Sought text table count p e i → (i ≡ count → ⊥)
-    → from ≡ word-of table i 0 → to ≡ word-of table i 1 → live ≡ word-of table i 5 → Next text table count p e i from to live
+pub next-row : {text table : List ℕ} {count p e i from to live : ℕ} → Rows text table count → Spans text p e → Sought text table count p e i → (i ≡ count → ⊥)
+    → from ≡ word-of table i place-column → to ≡ word-of table i end-column → live ≡ word-of table i open-column → Next text table count p e i from to live
 unfolding entry
 next-row {text} {table} {count} {p} {e} {i} {from} {to} {live} r w s n ef et eo =
     let l : i < count = lt-of-le-ne (s .low) n in
@@ -144,12 +136,12 @@ module _ {text table : List ℕ} {count p e i from to live : ℕ} (r : Next text
       longer true h = rw (spelled-length (r .own), spelled-length (r .its), h)
       longer false h = refl
 
-  pub same-start : (eqb live 1 && eqb (to - from) (e - p)) ≡ true → Same text from to p e 0
-  same-start h = record { first = r .own; second = r .its; as-long = eqb-true _ _ (and-right (eqb live 1) (eqb (to - from) (e - p)) h); inside = omega (arith, r .own .order); on = refl }
+  pub same-start : (eqb live 1 && eqb (to - from) (e - p)) ≡ true → Same-bytes text from to p e 0
+  same-start h = record { first = r .own; second = r .its; as-long = eqb-true _ _ (and-r (eqb live 1) (eqb (to - from) (e - p)) h); inside = omega (arith, r .own .order); on = refl }
 
-  pub differs : {k : ℕ} → Same text from to p e k → from + k < to → (getD text (from + k) 0 ≡ getD text (p + k) 0 → ⊥) → Sought text table count p e (i + 1)
+  pub differs : {k : ℕ} → Same-bytes text from to p e k → from + k < to → (getD text (from + k) 0 ≡ getD text (p + k) 0 → ⊥) → Sought text table count p e (i + 1)
   differs g h n = next (rw (same-not g h n) (and-false (eqb live 1)))
 
-  pub found : {k : ℕ} → Same text from to p e k → to ≤ from + k → (eqb live 1 && eqb (to - from) (e - p)) ≡ true → Finds text table count p e (At i)
+  pub found : {k : ℕ} → Same-bytes text from to p e k → to ≤ from + k → (eqb live 1 && eqb (to - from) (e - p)) ≡ true → Finds text table count p e (At i)
   unfolding number-of
-  found g h o = record { is = sym (r .sought .on ∙ at-i ∙ rw (and-left (eqb live 1) (eqb (to - from) (e - p)) o, same-end g h)) }
+  found g h o = record { is = sym (r .sought .on ∙ at-i ∙ rw (and-l (eqb live 1) (eqb (to - from) (e - p)) o, same-end g h)) }

@@ -13,20 +13,20 @@ use borrow.Author.Count.{below-more}
 use borrow.Author.Tests.{eqb-true, leb-true, leb-false}
 use Rattle.meaning.specs.declared.Kind.{Kind}
 use Rattle.meaning.specs.declared.Kind.the-variants.{Int as int, Bool as bool}
-use Rattle.meaning.specs.Codes.{lengths, declaration-limit}
+use Rattle.meaning.specs.Codes.{lengths}
 use Rattle.meaning.specs.Memory.{Declared, Declarations, declared, whole, size, next-multiple, need}
 use Rattle.meaning.specs.Tree.{kind-number}
 use Rattle.meaning.specs.Typing.{shut, with-one}
 use Rattle.layout.specs.Words.{unit}
-use Rattle.layout.specs.Table.{word-of, kind-of, entry, entries}
-use Rattle.layout.specs.Sound.{Laid}
-use Rattle.typing_expressions.specs.Rows.{Within, Listed, Rows, spelled, end-of, Added, closed, Closes}
-use Rattle.typing_expressions.proofs.Tags.{kind-back}
+use Rattle.layout.specs.Table.{row-words, word-of, kind-of, entry, entries, with-row, place-column, end-column, kind-column, lanes-column, address-column, open-column}
+use Rattle.layout.proofs.KindNumbers.{kind-back}
+use Rattle.laws.specs.Sound.{Laid}
+use Rattle.typing_expressions.specs.Rows.{Spans, Listed-length, Rows, spelled, end-of, closed, Closes}
 use Rattle.typing_expressions.proofs.Names.{length-entries, entries-at}
 
 -- ---- lengths and sizes
 -- A fact of each length of the list is one of every listed length.
-pub by-list : (P : ℕ → Type 0) → P 1 → P 2 → P 4 → P 8 → P 16 → (n : ℕ) → Listed n → P n
+pub by-list : (P : ℕ → Type 0) → P 1 → P 2 → P 4 → P 8 → P 16 → (n : ℕ) → Listed-length n → P n
 unfolding lengths
 by-list P a b c d e n l = go (eqb n 1) refl (eqb n 2) refl (eqb n 4) refl (eqb n 8) refl (eqb n 16) refl (l .is)
   where
@@ -49,17 +49,17 @@ pub record Size (s : ℕ) : Type 0 where
 of : (s t : ℕ) → 0 < s → s ≤ 64 → t * s ≡ 64 → Size s
 of s t p f e = record { some = p; few = f; times = t; is = e }
 
-pub listed-one : Listed 1
+pub listed-one : Listed-length 1
 unfolding lengths
 listed-one = record { is = refl }
 
-pub listed-some : {n : ℕ} → Listed n → 0 < n
+pub listed-some : {n : ℕ} → Listed-length n → 0 < n
 listed-some {n} l = by-list (λ n. 0 < n) (omega arith) (omega arith) (omega arith) (omega arith) (omega arith) n l
 
-pub listed-few : {n : ℕ} → Listed n → n ≤ 16
+pub listed-few : {n : ℕ} → Listed-length n → n ≤ 16
 listed-few {n} l = by-list (λ n. n ≤ 16) (omega arith) (omega arith) (omega arith) (omega arith) (omega arith) n l
 
-pub whole-size : (k : Kind) {n : ℕ} → Listed n → Size (whole k n)
+pub whole-size : (k : Kind) {n : ℕ} → Listed-length n → Size (whole k n)
 unfolding whole size
 whole-size int {n} l = by-list (λ n. Size (n * 4)) (of 4 16 (omega arith) (omega arith) refl) (of 8 8 (omega arith) (omega arith) refl) (of 16 4 (omega arith) (omega arith) refl) (of 32 2 (omega arith) (omega arith) refl) (of 64 1 (omega arith) (omega arith) refl) n l
 whole-size bool {n} l = by-list (λ n. Size (n * 1)) (of 1 64 (omega arith) (omega arith) refl) (of 2 32 (omega arith) (omega arith) refl) (of 4 16 (omega arith) (omega arith) refl) (of 8 8 (omega arith) (omega arith) refl) (of 16 4 (omega arith) (omega arith) refl) n l
@@ -89,14 +89,15 @@ need-entries text table (suc n) = last (entries text table n) (entry text table 
     last (c ∷ e ∷ Γ) d = last (e ∷ Γ) d
 
 -- The end of the last declaration, by the words that the code has read.
-pub last-end : (table : List ℕ) (n : ℕ) {a s w l : ℕ} {k : Kind} → (n ≡ 0 → ⊥) → a ≡ word-of table (n - 1) 4 → s ≡ whole k l → k ≡ kind-of w → w ≡ word-of table (n - 1) 2 → l ≡ word-of table (n - 1) 3 → end-of table n ≡ a + s
+pub last-end : (table : List ℕ) (n : ℕ) {a s l : ℕ} {k : Kind} → (n ≡ 0 → ⊥) → a ≡ word-of table (n - 1) address-column → s ≡ whole k l → k ≡ kind-of (word-of table (n - 1) kind-column) → l ≡ word-of table (n - 1) lanes-column
+    → end-of table n ≡ a + s
 unfolding end-of
-last-end table zero h ea es ek ew el = absurd (h refl)
-last-end table (suc n) h ea es ek ew el = let e : suc n - 1 ≡ n = omega arith in rw (es, ek, ew, el, ea, e)
+last-end table zero h ea es ek el = absurd (h refl)
+last-end table (suc n) h ea es ek el = let e : suc n - 1 ≡ n = omega arith in rw (es, ek, el, ea, e)
 
 -- ---- what a table keeps to, as declarations
 pub rows-laid : {text table : List ℕ} {count : ℕ} → Rows text table count → Laid (entries text table count)
-unfolding declared entry end-of declaration-limit
+unfolding declared entry end-of
 rows-laid {text} {table} {count} r = record {
   few = omega (arith, length-entries text table count, r .few);
   some-lanes = λ i l. rw (entries-at text table count i _ (low i l)) (listed-some (r .listed i (low i l)));
@@ -148,8 +149,19 @@ end-same T U zero h = refl
 end-same T U (suc n) h = rw (h n 4 (omega arith) (omega arith), h n 2 (omega arith) (omega arith), h n 3 (omega arith) (omega arith))
 
 -- ---- one more declaration
+-- The table U has the n rows of the table T, and behind them a row that is open.
+pub record Added (T U : List ℕ) (n place end kind lanes address : ℕ) : Type 0 where
+  pub as-long : length U ≡ length T
+  pub before : (i k : ℕ) → i < n → k < row-words → word-of U i k ≡ word-of T i k
+  pub its-place : word-of U n place-column ≡ place
+  pub its-end : word-of U n end-column ≡ end
+  pub its-kind : word-of U n kind-column ≡ kind
+  pub its-lanes : word-of U n lanes-column ≡ lanes
+  pub its-address : word-of U n address-column ≡ address
+  pub its-open : word-of U n open-column ≡ 1
+
 pub added : (T : List ℕ) (n place end kind lanes address : ℕ) → n * 6 + 6 ≤ length T
-    → Added T (sets (sets T (n * 6) (unit place end kind)) (n * 6 + 3) (unit lanes address 1)) n place end kind lanes address
+    → Added T (with-row T n place end kind lanes address) n place end kind lanes address
 added T n place end kind lanes address room = record {
   as-long = length-sets U (n * 6 + 3) (unit lanes address 1) ∙ length-sets T (n * 6) (unit place end kind);
   before = λ i k l m. second (i * 6 + k) (omega arith) ∙ unit-other T (n * 6) place end kind (i * 6 + k) (λ z. omega arith) (λ z. omega arith) (λ z. omega arith);
@@ -191,14 +203,14 @@ module _ {T U : List ℕ} {n place end lanes : ℕ} (text : List ℕ) (k : Kind)
     need-entries text T n,
   ))
 
-  pub added-rows : Rows text T n → n < 64 → Within text place end → Listed lanes → Rows text U (n + 1)
+  pub added-rows : Rows text T n → n < 64 → Spans text place end → Listed-length lanes → Rows text U (n + 1)
   unfolding end-of
   added-rows r l w s = record {
     short = r .short;
     few = omega arith;
     room = omega (arith, r .room, a .as-long);
-    names = below-more (λ i. Within text (word-of U i 0) (word-of U i 1)) n (λ i m. rw (a .before i 0 m (omega arith), a .before i 1 m (omega arith)) (r .names i m)) (rw (a .its-place, a .its-end) w);
-    listed = below-more (λ i. Listed (word-of U i 3)) n (λ i m. rw (a .before i 3 m (omega arith)) (r .listed i m)) (rw (a .its-lanes) s);
+    names = below-more (λ i. Spans text (word-of U i 0) (word-of U i 1)) n (λ i m. rw (a .before i 0 m (omega arith), a .before i 1 m (omega arith)) (r .names i m)) (rw (a .its-place, a .its-end) w);
+    listed = below-more (λ i. Listed-length (word-of U i 3)) n (λ i m. rw (a .before i 3 m (omega arith)) (r .listed i m)) (rw (a .its-lanes) s);
     ends = below-more (λ i. end-of U (suc i) ≤ end-of U (n + 1)) n (λ i m. omega (arith, old (suc i) m, r .ends i m, up, now)) (omega (arith, ap (end-of U) (add-one n)));
     small = omega (arith, z .few, far, now);
   }

@@ -1,5 +1,5 @@
 -- Typing an expression node by node over a stack is typing it as the definition does.
-use Prim.Native.Nat.{ℕ, zero, suc, _+_, _-_, _≤_, _<_}
+use Prim.Native.Nat.{ℕ, zero, suc, _+_, _*_, _-_, _≤_, _<_}
 use native.Mathlib.Omega.{arith}
 use native.Mathlib.Nat.{add-zero, le-max-left, le-max-right}
 use native.Mathlib.Numerals.{add-one}
@@ -11,8 +11,10 @@ use lib.Seq.{sets, length-sets, sets-eq, getD-set-same, getD-set-other, getD-dro
 use Rattle.meaning.specs.declared.Kind.{Kind}
 use Rattle.meaning.specs.declared.Refusal.{Refusal}
 use Rattle.meaning.specs.declared.Refusal.the-variants.{WrongKind, WrongLength}
-use Rattle.meaning.specs.Codes.{nesting-limit, Out, ok, refused, after, _>>_, give, check}
-use Rattle.meaning.specs.Tree.{Name, kind-number, _one-of_, Unary, Binary, table, unary-table, Expr, number, boolean, name, current-mask, unary, binary}
+use Rattle.meaning.specs.Codes.{Out, ok, refused, after, _>>_, give, check}
+use Rattle.meaning.specs.declared.Unary.{Unary}
+use Rattle.meaning.specs.declared.Binary.{Binary}
+use Rattle.meaning.specs.Tree.{Name, kind-number, _one-of_, table, unary-table, Expr, number, boolean, name, current-mask, unary, binary}
 use Rattle.meaning.specs.Program as P
 use Rattle.meaning.specs.Program.{constant}
 use Rattle.meaning.specs.Memory.{Declarations}
@@ -20,16 +22,18 @@ use Rattle.meaning.specs.Typing as T
 use Rattle.meaning.specs.Typing.{Types, typed}
 use Rattle.layout.specs.Words.{unit, binary-tag, unary-tag, flat}
 use Rattle.layout.specs.Code.{code-words}
+use Rattle.layout.specs.Stack.{slot-kind, slot-lanes, with-slot}
 use Rattle.layout.specs.Table.{kind-of, entries}
-use Rattle.layout.specs.Sound.{Spelled, stack, stack-limit, Names, of-number, of-boolean, of-name, of-mask, of-unary, of-binary}
+use Rattle.layout.proofs.KindNumbers.{kind-back}
+use Rattle.laws.specs.Sound.{Spelled, stack as height, stack-limit, In-text, of-number, of-boolean, of-name, of-mask, of-unary, of-binary}
+use Rattle.typing_expressions.specs.declared.Point.{Point}
 use Rattle.typing_expressions.specs.declared.Typing.{Typing}
 use Rattle.typing_expressions.specs.declared.Typing.the-variants.{Typed, Refused}
-use Rattle.typing_expressions.specs.Nodes.{Node, a-number, a-boolean, a-name, a-mask, a-unary, a-binary, nodes, node-tag, node-first, node-second, nodes-words, code-tag, code-place, arity, Entry, Slot, step, slots, Node-at}
-use Rattle.typing_expressions.specs.Answers.{There-is, Expression, entry-out, Steps, typed-out, Ready, Shows}
-use Rattle.typing_expressions.proofs.Tags.{kind-back}
+use Rattle.typing_expressions.specs.Nodes.{Tree-node, a-number, a-boolean, a-name, a-mask, a-unary, a-binary, nodes, node-tag, node-first, node-second, nodes-words, code-tag, code-place, arity, Entry, Slot, step, slots, Node-at}
+use Rattle.typing_expressions.specs.Answers.{There-is, Expression, entry-out, Types-node, Types-at, Takes, Codes-as, Codes-at, typed-out, Typing-room, Types-as, Types-expression}
 
 -- ---- nodes and words
-words-append : (l m : List Node) → nodes-words (l ++ m) ≡ nodes-words l ++ nodes-words m
+words-append : (l m : List Tree-node) → nodes-words (l ++ m) ≡ nodes-words l ++ nodes-words m
 unfolding nodes-words
 words-append [] m = refl
 words-append (n ∷ l) m = rw (words-append l m)
@@ -44,43 +48,43 @@ flat-nodes (unary p o e) = rw (flat-nodes e, words-append (nodes e) (a-unary p o
 flat-nodes (binary p o a b) = rw (flat-nodes a, flat-nodes b, words-append (nodes a) (nodes b ++ (a-binary p o ∷ [])), words-append (nodes b) (a-binary p o ∷ []))
 
 -- ---- the stack suffices: from a height h on, nodes find their operands and leave no more than fits
-pub data Fits (text : List ℕ) : List Node → ℕ → Type 0 where
-  none : {h : ℕ} → Fits text [] h
-  more : {n : Node} {l : List Node} {h : ℕ} → ((p : ℕ) (x : Name) → n ≡ a-name p x → Spelled text p x) → arity n ≤ h → h + 1 - arity n ≤ stack-limit → Fits text l (h + 1 - arity n) → Fits text (n ∷ l) h
+pub data Stacked (text : List ℕ) : List Tree-node → ℕ → Type 0 where
+  none : {h : ℕ} → Stacked text [] h
+  more : {n : Tree-node} {l : List Tree-node} {h : ℕ} → ((p : ℕ) (x : Name) → n ≡ a-name p x → Spelled text p x) → arity n ≤ h → h + 1 - arity n ≤ stack-limit → Stacked text l (h + 1 - arity n) → Stacked text (n ∷ l) h
 
-some : (e : Expr) → 1 ≤ stack e
-unfolding stack
+some : (e : Expr) → 1 ≤ height e
+unfolding height
 some (number n) = omega arith
 some (boolean b) = omega arith
 some (name p x) = omega arith
 some current-mask = omega arith
 some (unary p o a) = some a
-some (binary p o a b) = omega (arith, le-max-right (stack a) (suc (stack b)))
+some (binary p o a b) = omega (arith, le-max-right (height a) (suc (height b)))
 
 module _ {text : List ℕ} where
-  one : (n : Node) {l : List Node} (h g : ℕ) → ((p : ℕ) (x : Name) → n ≡ a-name p x → Spelled text p x) → g ≡ h + 1 - arity n → arity n ≤ h → g ≤ stack-limit → Fits text l g → Fits text (n ∷ l) h
+  one : (n : Tree-node) {l : List Tree-node} (h g : ℕ) → ((p : ℕ) (x : Name) → n ≡ a-name p x → Spelled text p x) → g ≡ h + 1 - arity n → arity n ≤ h → g ≤ stack-limit → Stacked text l g → Stacked text (n ∷ l) h
   one n {l} h g s e a b f = more {l = l} s a (rw (← e) b) (rw (← e) f)
 
-  no-name : (n : Node) → ((p : ℕ) (x : Name) → n ≡ a-name p x → _≡_ {A = ℕ} 0 1) → (p : ℕ) (x : Name) → n ≡ a-name p x → Spelled text p x
+  no-name : (n : Tree-node) → ((p : ℕ) (x : Name) → n ≡ a-name p x → _≡_ {A = ℕ} 0 1) → (p : ℕ) (x : Name) → n ≡ a-name p x → Spelled text p x
   no-name n h p x q = let z = h p x q in absurd (omega arith)
 
-  fits-nodes : {e : Expr} → Names text e → (h : ℕ) → h + stack e ≤ stack-limit → (l : List Node) → Fits text l (h + 1) → Fits text (nodes e ++ l) h
-  unfolding nodes stack arity
-  fits-nodes (of-number {n}) h b l f = one (a-number n) h (h + 1) (no-name (a-number n) (λ p x q. cc)) (omega arith) (omega arith) b f
+  fits-nodes : {e : Expr} → In-text text e → (h : ℕ) → h + height e ≤ stack-limit → (l : List Tree-node) → Stacked text l (h + 1) → Stacked text (nodes e ++ l) h
+  unfolding nodes height arity
+  fits-nodes (of-number {n} m) h b l f = one (a-number n) h (h + 1) (no-name (a-number n) (λ p x q. cc)) (omega arith) (omega arith) b f
   fits-nodes (of-boolean {b}) h r l f = one (a-boolean b) h (h + 1) (no-name (a-boolean b) (λ p x q. cc)) (omega arith) (omega arith) r f
   fits-nodes (of-name {p} {x} s) h b l f = one (a-name p x) h (h + 1) (λ q y z. same q y z (cc) (cc)) (omega arith) (omega arith) b f
     where
       same : (q : ℕ) (y : Name) → a-name p x ≡ a-name q y → p ≡ q → x ≡ y → Spelled text q y
       same q y z i j = rw (← i, ← j) s
   fits-nodes of-mask h b l f = one a-mask h (h + 1) (no-name a-mask (λ p x q. cc)) (omega arith) (omega arith) b f
-  fits-nodes (of-unary {p} {o} {a} m) h b l f =
+  fits-nodes (of-unary {p} {o} {a} i m) h b l f =
       rw (append-assoc (nodes a) (a-unary p o ∷ []) l)
       (fits-nodes m h b (a-unary p o ∷ l) (one (a-unary p o) (h + 1) (h + 1) (no-name (a-unary p o) (λ p x q. cc)) (omega arith) (omega arith) (omega (arith, some a)) f))
-  fits-nodes (of-binary {p} {o} {a} {b} m n) h r l f =
+  fits-nodes (of-binary {p} {o} {a} {b} i m n) h r l f =
       rw (append-assoc (nodes a) (nodes b ++ (a-binary p o ∷ [])) l, append-assoc (nodes b) (a-binary p o ∷ []) l)
-      (fits-nodes m h (omega (arith, le-max-left (stack a) (suc (stack b)))) (nodes b ++ (a-binary p o ∷ l))
-      (fits-nodes n (h + 1) (omega (arith, le-max-right (stack a) (suc (stack b)))) (a-binary p o ∷ l)
-      (one (a-binary p o) (h + 1 + 1) (h + 1) (no-name (a-binary p o) (λ p x q. cc)) (omega arith) (omega arith) (omega (arith, le-max-right (stack a) (suc (stack b)))) f)))
+      (fits-nodes m h (omega (arith, le-max-left (height a) (suc (height b)))) (nodes b ++ (a-binary p o ∷ l))
+      (fits-nodes n (h + 1) (omega (arith, le-max-right (height a) (suc (height b)))) (a-binary p o ∷ l)
+      (one (a-binary p o) (h + 1 + 1) (h + 1) (no-name (a-binary p o) (λ p x q. cc)) (omega arith) (omega arith) (omega (arith, le-max-right (height a) (suc (height b)))) f)))
 
 -- ---- the walk
 -- On the way: the kinds and lengths on the stack, and the code words so far.
@@ -91,13 +95,13 @@ pub record Way : Type 0 where
 abbrev pub way : List Slot → List ℕ → Way
 way l w = record { on = l; words = w }
 
-abbrev pub pushed : Node → Entry → Way → Way
+abbrev pub pushed : Tree-node → Entry → Way → Way
 pushed n x v = way ((x .kind, x .lanes) ∷ drop (arity n) (v .on)) (v .words ++ unit (code-tag n) (x .word) (code-place n))
 
 abbrev pub entered : T.Typed → Way → Way
 entered a v = way ((a .kind, a .lanes) ∷ v .on) (v .words ++ code-words (a .code))
 
-pub run : ℕ → List Node → Way → Types Way
+pub run : ℕ → List Tree-node → Way → Types Way
 run C [] v Γ = ok v Γ
 run C (n ∷ l) v Γ = after (step C n (v .on) Γ) (λ x Δ. run C l (pushed n x v) Δ)
 
@@ -122,7 +126,7 @@ binary-typed p o a b =
     >> give (record { code = P.two p (a .kind) o (a .code) (b .code); kind = T.gives-kind ((table o) .2) (a .kind); lanes = T.joined (a .lanes) (b .lanes) }))
 
 module _ (C p : ℕ) where
-  unary-on : (o : Unary) (l : List Node) (v : Way) (a : T.Typed) (Γ : Declarations) → run C (a-unary p o ∷ l) (entered a v) Γ ≡ after (unary-typed p o a Γ) (λ t Δ. run C l (entered t v) Δ)
+  unary-on : (o : Unary) (l : List Tree-node) (v : Way) (a : T.Typed) (Γ : Declarations) → run C (a-unary p o ∷ l) (entered a v) Γ ≡ after (unary-typed p o a Γ) (λ t Δ. run C l (entered t v) Δ)
   unfolding run step arity code-tag code-place code-words
   unary-on o l v a Γ = go (a .kind one-of (unary-table o) .1)
     where
@@ -134,7 +138,7 @@ module _ (C p : ℕ) where
       go true = rw (append-assoc (v .words) (code-words (a .code)) (unit (unary-tag o) (kind-number (a .kind)) p))
       go false = refl
 
-  binary-on : (o : Binary) (l : List Node) (v : Way) (a b : T.Typed) (Γ : Declarations) → run C (a-binary p o ∷ l) (entered b (entered a v)) Γ ≡ after (binary-typed p o a b Γ) (λ t Δ. run C l (entered t v) Δ)
+  binary-on : (o : Binary) (l : List Tree-node) (v : Way) (a b : T.Typed) (Γ : Declarations) → run C (a-binary p o ∷ l) (entered b (entered a v)) Γ ≡ after (binary-typed p o a b Γ) (λ t Δ. run C l (entered t v) Δ)
   unfolding run step arity code-tag code-place code-words
   binary-on o l v a b Γ = go (T.accepts ((table o) .1) (a .kind) (b .kind)) (T.match (a .lanes) (b .lanes))
     where
@@ -153,7 +157,7 @@ module _ (C p : ℕ) where
       go false t = refl
 
 module _ (C : ℕ) where
-  walk : (e : Expr) (l : List Node) (v : Way) (Γ : Declarations) → run C (nodes e ++ l) v Γ ≡ after (typed C e Γ) (λ a Δ. run C l (entered a v) Δ)
+  walk : (e : Expr) (l : List Tree-node) (v : Way) (Γ : Declarations) → run C (nodes e ++ l) v Γ ≡ after (typed C e Γ) (λ a Δ. run C l (entered a v) Δ)
   unfolding run nodes typed step arity code-tag code-place code-words
   walk (number n) l v Γ = refl
   walk (boolean b) l v Γ = refl
@@ -172,35 +176,44 @@ module _ (C : ℕ) where
   unfolding run
   walked e v Γ = rw (append-nil (nodes e)) at (walk e [] v Γ)
 
--- ---- the stack in its buffers
-module _ (ks ls : List ℕ) where
-  slots-drop : (a h : ℕ) → a ≤ h → drop a (slots ks ls h) ≡ slots ks ls (h - a)
+-- ---- the stack in its buffer
+module _ (st : List ℕ) where
+  slots-drop : (a h : ℕ) → a ≤ h → drop a (slots st h) ≡ slots st (h - a)
   unfolding slots
-  slots-drop zero h q = let e : h ≡ h - 0 = omega arith in ap (slots ks ls) e
+  slots-drop zero h q = let e : h ≡ h - 0 = omega arith in ap (slots st) e
   slots-drop (suc a) zero q = absurd (omega arith)
-  slots-drop (suc a) (suc h) q = let e : h - a ≡ suc h - suc a = omega arith in slots-drop a h (omega arith) ∙ ap (slots ks ls) e
+  slots-drop (suc a) (suc h) q = let e : h - a ≡ suc h - suc a = omega arith in slots-drop a h (omega arith) ∙ ap (slots st) e
 
-  slots-set : (b x y h : ℕ) → h ≤ b → slots (set ks b x) (set ls b y) h ≡ slots ks ls h
-  unfolding slots
-  slots-set b x y zero q = refl
-  slots-set b x y (suc h) q =
-      rw (getD-set-other ks b h x 0 (λ z. omega arith), getD-set-other ls b h y 0 (λ z. omega arith), slots-set b x y h (omega arith))
+  module _ (b x y : ℕ) where
+    slot-other : (j : ℕ) → j < b * 2 → getD (with-slot st b x y) j 0 ≡ getD st j 0
+    slot-other j l = getD-set-other (set st (b * 2) x) (suc (b * 2)) j y 0 (λ z. omega arith) ∙ getD-set-other st (b * 2) j x 0 (λ z. omega arith)
 
-  slots-push : (b x y : ℕ) → b < length ks → b < length ls → slots (set ks b x) (set ls b y) (b + 1) ≡ (kind-of x, y) ∷ slots ks ls b
-  unfolding slots
-  slots-push b x y p q = rw (add-one b) (rw (getD-set-same ks b x 0 p, getD-set-same ls b y 0 q, slots-set b x y b (omega arith)))
+    slots-set : (h : ℕ) → h ≤ b → slots (with-slot st b x y) h ≡ slots st h
+    unfolding slots
+    slots-set zero q = refl
+    slots-set (suc h) q = rw (slot-other (h * 2) (omega arith), slot-other (h * 2 + 1) (omega arith), slots-set h (omega arith))
+
+    slots-push : b * 2 + 2 ≤ length st → slots (with-slot st b x y) (b + 1) ≡ (kind-of x, y) ∷ slots st b
+    unfolding slots
+    slots-push p = rw (add-one b) (rw (first, second, slots-set b (omega arith)))
+      where
+        first : getD (with-slot st b x y) (b * 2) 0 ≡ x
+        first = getD-set-other (set st (b * 2) x) (suc (b * 2)) (b * 2) y 0 (λ z. omega arith) ∙ getD-set-same st (b * 2) x 0 (omega arith)
+
+        second : getD (with-slot st b x y) (b * 2 + 1) 0 ≡ y
+        second = rw (add-one (b * 2)) (getD-set-same (set st (b * 2) x) (suc (b * 2)) y 0 (rw (length-set st (b * 2) x) (omega arith)))
 
 -- ---- the loop
 -- The nodes from word i on, over a stack of height h: the first of them, and the others.
-pub record Here (text tree : List ℕ) (i h : ℕ) (rest : List Node) : Type 0 where
-  pub node : Node
-  pub others : List Node
+pub record Node-here (text tree : List ℕ) (i h : ℕ) (rest : List Tree-node) : Type 0 where
+  pub node : Tree-node
+  pub others : List Tree-node
   pub is : rest ≡ node ∷ others
   pub at : Node-at text tree i h node
   pub then : drop (i + 3) tree ≡ nodes-words others
-  pub fits : Fits text others (h + 1 - arity node)
+  pub fits : Stacked text others (h + 1 - arity node)
 
-here : {text tree : List ℕ} {i h : ℕ} {rest : List Node} → drop i tree ≡ nodes-words rest → Fits text rest h → i < length tree → Here text tree i h rest
+here : {text tree : List ℕ} {i h : ℕ} {rest : List Tree-node} → drop i tree ≡ nodes-words rest → Stacked text rest h → i < length tree → Node-here text tree i h rest
 unfolding nodes-words
 here {text} {tree} {i} e none l = absurd (omega (arith, length-drop i tree, ap length e))
 here {text} {tree} {i} {h} e (more {n} {l = r} s a b f) l = record {
@@ -223,18 +236,18 @@ here {text} {tree} {i} {h} e (more {n} {l = r} s a b f) l = record {
 }
 
 -- Before word i the expression e was typed: the rest of the walk is that of the nodes from there on.
-pub record Going (text tree : List ℕ) (Γ : Declarations) (C : ℕ) (before code kinds lengths : List ℕ) (size i h : ℕ) (e : Expr) : Type 0 where
-  pub rest : List Node
+pub record Typing-from (text tree : List ℕ) (Γ : Declarations) (C : ℕ) (before code stack : List ℕ) (size i h : ℕ) (e : Expr) : Type 0 where
+  pub rest : List Tree-node
   pub from-here : drop i tree ≡ nodes-words rest
-  pub fits : Fits text rest h
-  pub on : run C (nodes e) (way [] before) Γ ≡ run C rest (way (slots kinds lengths h) (take (size + i) code)) Γ
+  pub fits : Stacked text rest h
+  pub on : run C (nodes e) (way [] before) Γ ≡ run C rest (way (slots stack h) (take (size + i) code)) Γ
 
-pub going-start : {text tree : List ℕ} {e : Expr} → Expression text tree e → (Γ : Declarations) (C : ℕ) (code kinds lengths : List ℕ) (size : ℕ) → Going text tree Γ C (take size code) code kinds lengths size 0 0 e
+pub going-start : {text tree : List ℕ} {e : Expr} → Expression text tree e → (Γ : Declarations) (C : ℕ) (code stack : List ℕ) (size : ℕ) → Typing-from text tree Γ C (take size code) code stack size 0 0 e
 unfolding slots
-going-start {text} {tree} {e} x Γ C code kinds lengths size = record {
+going-start {text} {tree} {e} x Γ C code stack size = record {
   rest = nodes e;
   from-here = x .is ∙ flat-nodes e;
-  fits = rw (append-nil (nodes e)) at (fits-nodes (x .sound .names) 0 (omega (arith, x .sound .fits)) [] none);
+  fits = rw (append-nil (nodes e)) at (fits-nodes (x .sound .in-text) 0 (omega (arith, x .sound .fits)) [] none);
   on = rw (add-zero size);
 }
 
@@ -247,16 +260,16 @@ module _ {S A B : Type 0} (f : A → B) where
   after-ok (ok a s) h = (a, cc, cc)
   after-ok (refused c p) h = absurd (let z : _≡_ {A = ℕ} 0 1 = cc in omega arith)
 
-module _ {text tree : List ℕ} {Γ : Declarations} {C : ℕ} {before code kinds lengths : List ℕ} {size i h : ℕ} {e : Expr} (g : Going text tree Γ C before code kinds lengths size i h e) where
-  pub going-here : i < length tree → Here text tree i h (g .rest)
+module _ {text tree : List ℕ} {Γ : Declarations} {C : ℕ} {before code stack : List ℕ} {size i h : ℕ} {e : Expr} (g : Typing-from text tree Γ C before code stack size i h e) where
+  pub going-here : i < length tree → Node-here text tree i h (g .rest)
   going-here l = here (g .from-here) (g .fits) l
 
-  module _ {r : Typing} (x : Here text tree i h (g .rest)) (s : Steps C (x .node) (slots kinds lengths h) Γ r) where
-    stepped : run C (nodes e) (way [] before) Γ ≡ after (entry-out r Γ) (λ y Δ. run C (x .others) (pushed (x .node) y (way (slots kinds lengths h) (take (size + i) code))) Δ)
+  module _ {r : Typing} (x : Node-here text tree i h (g .rest)) (s : Types-node C (x .node) (slots stack h) Γ r) where
+    stepped : run C (nodes e) (way [] before) Γ ≡ after (entry-out r Γ) (λ y Δ. run C (x .others) (pushed (x .node) y (way (slots stack h) (take (size + i) code))) Δ)
     unfolding run
     stepped = g .on ∙ rw (x .is) (rw (s .is))
 
-    pub going-refused : {c : Refusal} {p : ℕ} (code′ : List ℕ) (end : ℕ) → r ≡ Refused c p → Shows before code′ end Γ r (typed C e Γ)
+    pub going-refused : {c : Refusal} {p : ℕ} (code′ : List ℕ) (end : ℕ) → r ≡ Refused c p → Types-as before code′ end Γ r (typed C e Γ)
     unfolding entry-out typed-out
     going-refused {c} {p} code′ end q = record {
       becomes = constant 0;
@@ -264,15 +277,15 @@ module _ {text tree : List ℕ} {Γ : Declarations} {C : ℕ} {before code kinds
       words = λ k n w z. absurd (let y : _≡_ {A = ℕ} 0 1 = cc in omega arith);
     }
 
-    pub going-next : {k : Kind} {n w t z b : ℕ} → r ≡ Typed k n w → t ≡ code-tag (x .node) → z ≡ code-place (x .node) → b ≡ h - arity (x .node) → size + i + 3 ≤ length code → h + 1 - arity (x .node) ≤ length kinds → h + 1 - arity (x .node) ≤ length lengths
-        → Going text tree Γ C before (sets code (size + i) (unit t w z)) (set kinds b (kind-number k)) (set lengths b n) size (i + 3) (b + 1) e
+    pub going-next : {k : Kind} {n w t z b : ℕ} → r ≡ Typed k n w → t ≡ code-tag (x .node) → z ≡ code-place (x .node) → b ≡ h - arity (x .node) → size + i + 3 ≤ length code → b * 2 + 2 ≤ length stack
+        → Typing-from text tree Γ C before (sets code (size + i) (unit t w z)) (with-slot stack b (kind-number k) n) size (i + 3) (b + 1) e
     unfolding entry-out
-    going-next {k} {n} {w} {t} {z} {b} q et ez eb room rk rl = record {
+    going-next {k} {n} {w} {t} {z} {b} q et ez eb room high = record {
       rest = x .others;
       from-here = x .then;
       fits = rw up (x .fits);
-      on = stepped ∙ rw (q, slots-drop kinds lengths (arity (x .node)) h (x .at .operands), ← eb, ← et, ← ez)
-          (rw (slots-push kinds lengths b (kind-number k) n (omega arith) (omega arith), kind-back k, written));
+      on = stepped ∙ rw (q, slots-drop stack (arity (x .node)) h (x .at .operands), ← eb, ← et, ← ez)
+          (rw (slots-push stack b (kind-number k) n high, kind-back k, written));
     }
       where
         up : b + 1 ≡ h + 1 - arity (x .node)
@@ -286,19 +299,19 @@ module _ {text tree : List ℕ} {Γ : Declarations} {C : ℕ} {before code kinds
             (take-at (take (size + i) code ++ unit t w z) (drop (size + i + 3) code) (size + i + 3)
             (length-append (take (size + i) code) (unit t w z) ∙ rw (length-take-le (size + i) code (omega arith))))
 
-  ended : length tree ≤ i → run C (nodes e) (way [] before) Γ ≡ ok (way (slots kinds lengths h) (take (size + i) code)) Γ
+  ended : length tree ≤ i → run C (nodes e) (way [] before) Γ ≡ ok (way (slots stack h) (take (size + i) code)) Γ
   unfolding run nodes-words
   ended l = go (g .rest) (g .from-here) (g .on)
     where
-      go : (m : List Node) → drop i tree ≡ nodes-words m → run C (nodes e) (way [] before) Γ ≡ run C m (way (slots kinds lengths h) (take (size + i) code)) Γ → run C (nodes e) (way [] before) Γ ≡ ok (way (slots kinds lengths h) (take (size + i) code)) Γ
+      go : (m : List Tree-node) → drop i tree ≡ nodes-words m → run C (nodes e) (way [] before) Γ ≡ run C m (way (slots stack h) (take (size + i) code)) Γ → run C (nodes e) (way [] before) Γ ≡ ok (way (slots stack h) (take (size + i) code)) Γ
       go [] q o = o
       go (n ∷ m) q o = absurd (omega (arith, length-drop i tree, ap length q))
 
-  pub going-end : i ≡ length tree → {k : Kind} {n : ℕ} (w : ℕ) → k ≡ kind-of (getD kinds 0 0) → n ≡ getD lengths 0 0 → Shows before code (size + length tree) Γ (Typed k n w) (typed C e Γ)
+  pub going-end : i ≡ length tree → {k : Kind} {n : ℕ} (w : ℕ) → k ≡ kind-of (slot-kind stack 0) → n ≡ slot-lanes stack 0 → Types-as before code (size + length tree) Γ (Typed k n w) (typed C e Γ)
   unfolding typed-out slots
   going-end l {k} {n} w ek en =
       let a = after-ok (λ a. entered a (way [] before)) (typed C e Γ) (sym (walked C e (way [] before) Γ) ∙ ended (omega arith)) in
-      let s : ((a .0) .kind, (a .0) .lanes) ∷ [] ≡ slots kinds lengths h = ap (λ v. v .on) (a .2) in
+      let s : ((a .0) .kind, (a .0) .lanes) ∷ [] ≡ slots stack h = ap (λ v. v .on) (a .2) in
       let top = only h s in
       record {
         becomes = (a .0) .code;
@@ -306,51 +319,51 @@ module _ {text tree : List ℕ} {Γ : Declarations} {C : ℕ} {before code kinds
         words = λ _ _ _ _. ap (λ j. take (size + j) code) (sym l) ∙ sym (ap (λ v. v .words) (a .2));
       }
     where
-      only : {b : Kind} {m : ℕ} (h : ℕ) → (b, m) ∷ [] ≡ slots kinds lengths h → (b ≡ kind-of (getD kinds 0 0)) × (m ≡ getD lengths 0 0)
+      only : {b : Kind} {m : ℕ} (h : ℕ) → (b, m) ∷ [] ≡ slots stack h → (b ≡ kind-of (slot-kind stack 0)) × (m ≡ slot-lanes stack 0)
       only zero q = absurd (omega (arith, ap length q))
-      only {b} {m} (suc zero) q = let p : _≡_ {A = Slot} (b, m) (kind-of (getD kinds 0 0), getD lengths 0 0) = cc in (ap (λ s. s .0) p, ap (λ s. s .1) p)
+      only {b} {m} (suc zero) q = let p : _≡_ {A = Slot} (b, m) (kind-of (slot-kind stack 0), slot-lanes stack 0) = cc in (ap (λ s. s .0) p, ap (λ s. s .1) p)
       only (suc (suc h)) q = absurd (omega (arith, ap length q))
 
 pub limit : stack-limit ≡ 232
-unfolding stack-limit nesting-limit
+unfolding stack-limit
 limit = refl
 
 -- ---- the loop, for every expression that the words may be of
-pub record Walking (text tree table : List ℕ) (count C size : ℕ) (code₀ kinds₀ lengths₀ code kinds lengths : List ℕ) (i h : ℕ) : Type 0 where
-  pub ready : Ready text tree table code₀ kinds₀ lengths₀ C count size
+pub record Walking (text tree table : List ℕ) (at : Point) (code₀ stack₀ code stack : List ℕ) (i h : ℕ) : Type 0 where
+  pub room : Typing-room text tree table code₀ stack₀ at
   pub some : There-is (Expression text tree)
   pub code-long : length code ≡ length code₀
-  pub kinds-long : length kinds ≡ length kinds₀
-  pub lengths-long : length lengths ≡ length lengths₀
+  pub stack-long : length stack ≡ length stack₀
   pub inside : i ≤ length tree
   pub high : h ≤ stack-limit
-  pub on : (e : Expr) → Expression text tree e → Going text tree (entries text table count) C (take size code₀) code kinds lengths size i h e
+  pub on : (e : Expr) → Expression text tree e → Typing-from text tree (entries text table (at .count)) (at .context) (take (at .size) code₀) code stack (at .size) i h e
 
-pub walking-start : {text tree table code kinds lengths : List ℕ} {C count size : ℕ} → Ready text tree table code kinds lengths C count size → There-is (Expression text tree)
-    → Walking text tree table count C size code kinds lengths code kinds lengths 0 0
+pub walking-start : {text tree table code stack : List ℕ} {at : Point} → Typing-room text tree table code stack at → There-is (Expression text tree) → Walking text tree table at code stack code stack 0 0
 walking-start r s = record {
-  ready = r;
+  room = r;
   some = s;
   code-long = refl;
-  kinds-long = refl;
-  lengths-long = refl;
+  stack-long = refl;
   inside = omega arith;
   high = omega arith;
-  on = λ e x. going-start x _ _ _ _ _ _;
+  on = λ e x. going-start x _ _ _ _ _;
 }
 
 -- What is left in the buffers for a node that takes a operands.
-pub record Room (tree code kinds lengths : List ℕ) (size i h a : ℕ) : Type 0 where
+pub record Node-room (tree code stack : List ℕ) (size i h a : ℕ) : Type 0 where
   pub words : i + 3 ≤ length tree
   pub unit : size + i + 3 ≤ length code
   pub operands : a ≤ h
-  pub kind : h - a < length kinds
-  pub lanes : h - a < length lengths
+  pub slot : (h - a) * 2 + 2 ≤ length stack
   pub high : h - a + 1 ≤ stack-limit
 
-module _ {text tree table : List ℕ} {count C size : ℕ} {code₀ kinds₀ lengths₀ code kinds lengths : List ℕ} {i h : ℕ} (g : Walking text tree table count C size code₀ kinds₀ lengths₀ code kinds lengths i h) where
-  pub walking-end : i ≡ length tree → {k : Kind} {n : ℕ} (w : ℕ) → k ≡ kind-of (getD kinds 0 0) → n ≡ getD lengths 0 0
-      → (e : Expr) → Expression text tree e → Shows (take size code₀) code (size + length tree) (entries text table count) (Typed k n w) (typed C e (entries text table count))
+module _ {text tree table : List ℕ} {at : Point} {code₀ stack₀ code stack : List ℕ} {i h : ℕ} (g : Walking text tree table at code₀ stack₀ code stack i h) where
+  -- The stack has room for what waits.
+  pub walking-high : h * 2 ≤ length stack
+  walking-high = omega (arith, g .high, g .room .stack-room, g .stack-long, limit)
+
+  pub walking-end : i ≡ length tree → {k : Kind} {n : ℕ} (w : ℕ) → k ≡ kind-of (slot-kind stack 0) → n ≡ slot-lanes stack 0
+      → Types-expression (typed (at .context)) at text tree table code₀ code (Typed k n w)
   walking-end l w ek en e x = going-end (g .on e x) l w ek en
 
   module _ (l : i < length tree) where
@@ -360,10 +373,10 @@ module _ {text tree table : List ℕ} {count C size : ℕ} {code₀ kinds₀ len
     pub walking-node : There-is (Node-at text tree i h)
     walking-node = its
 
-    pub walking-place : size + i + 3 ≤ length code
-    walking-place = omega (arith, its .is .inside, g .ready .code-room, g .code-long)
+    pub walking-place : at .size + i + 3 ≤ length code
+    walking-place = omega (arith, its .is .inside, g .room .code-room, g .code-long)
 
-    pub walking-room : {a : ℕ} → ((n : Node) → node-tag n ≡ getD tree i 0 → a ≡ arity n) → Room tree code kinds lengths size i h a
+    pub walking-room : {a : ℕ} → Takes (getD tree i 0) a → Node-room tree code stack (at .size) i h a
     walking-room {a} f =
         let n = its in
         let q = f (n .the) (n .is .is .tag-is) in
@@ -371,32 +384,28 @@ module _ {text tree table : List ℕ} {count C size : ℕ} {code₀ kinds₀ len
           words = n .is .inside;
           unit = walking-place;
           operands = omega (arith, n .is .operands);
-          kind = omega (arith, n .is .operands, n .is .fits, g .ready .kinds-room, g .kinds-long);
-          lanes = omega (arith, n .is .operands, n .is .fits, g .ready .lengths-room, g .lengths-long);
+          slot = omega (arith, n .is .operands, n .is .fits, g .room .stack-room, g .stack-long, limit);
           high = omega (arith, n .is .operands, n .is .fits);
         }
 
-    module _ {r : Typing} (s : (n : Node) → Node-at text tree i h n → Steps C n (slots kinds lengths h) (entries text table count) r) where
-      pub walking-refused : {c : Refusal} {p : ℕ} (code′ : List ℕ) → r ≡ Refused c p
-          → (e : Expr) → Expression text tree e → Shows (take size code₀) code′ (size + length tree) (entries text table count) r (typed C e (entries text table count))
-      walking-refused code′ q e x = let y = going-here (g .on e x) l in going-refused (g .on e x) y (s (y .node) (y .at)) code′ (size + length tree) q
+    module _ {r : Typing} (s : Types-at at i h text tree table stack r) where
+      pub walking-refused : {c : Refusal} {p : ℕ} (code′ : List ℕ) → r ≡ Refused c p → Types-expression (typed (at .context)) at text tree table code₀ code′ r
+      walking-refused code′ q e x = let y = going-here (g .on e x) l in going-refused (g .on e x) y (s (y .node) (y .at)) code′ (at .size + length tree) q
 
-      pub walking-next : {k : Kind} {n w t z a : ℕ} {code′ : List ℕ} → r ≡ Typed k n w → ((m : Node) → node-tag m ≡ getD tree i 0 → t ≡ code-tag m)
-          → ((m : Node) → node-tag m ≡ getD tree i 0 → node-first m ≡ getD tree (i + 1) 0 → z ≡ code-place m) → ((m : Node) → node-tag m ≡ getD tree i 0 → a ≡ arity m)
-          → code′ ≡ sets code (size + i) (unit t w z)
-          → Walking text tree table count C size code₀ kinds₀ lengths₀ code′ (set kinds (h - a) (kind-number k)) (set lengths (h - a) n) (i + 3) (h - a + 1)
-      walking-next {k} {n} {w} {t} {z} {a} {code′} q ft fz fa ec =
+      pub walking-next : {k : Kind} {n w t z a : ℕ} {code′ stack′ : List ℕ} → r ≡ Typed k n w → Codes-as (getD tree i 0) t → Codes-at tree i z → Takes (getD tree i 0) a
+          → code′ ≡ sets code (at .size + i) (unit t w z) → stack′ ≡ with-slot stack (h - a) (kind-number k) n
+          → Walking text tree table at code₀ stack₀ code′ stack′ (i + 3) (h - a + 1)
+      walking-next {k} {n} {w} {t} {z} {a} {code′} {stack′} q ft fz fa ec es =
           let m = walking-room fa in
           record {
-            ready = g .ready;
+            room = g .room;
             some = g .some;
-            code-long = rw ec (length-sets code (size + i) (unit t w z) ∙ g .code-long);
-            kinds-long = length-set kinds (h - a) (kind-number k) ∙ g .kinds-long;
-            lengths-long = length-set lengths (h - a) n ∙ g .lengths-long;
+            code-long = rw ec (length-sets code (at .size + i) (unit t w z) ∙ g .code-long);
+            stack-long = rw es (length-sets stack ((h - a) * 2) (kind-number k ∷ n ∷ []) ∙ g .stack-long);
             inside = m .words;
             high = m .high;
             on = λ e x.
                 let y = going-here (g .on e x) l in
                 let ea = fa (y .node) (y .at .is .tag-is) in
-                rw ec (going-next (g .on e x) y (s (y .node) (y .at)) q (ft (y .node) (y .at .is .tag-is)) (fz (y .node) (y .at .is .tag-is) (y .at .is .first-is)) (ap (λ b. h - b) ea) (m .unit) (omega (arith, m .kind, m .operands)) (omega (arith, m .lanes, m .operands)));
+                rw (ec, es) (going-next (g .on e x) y (s (y .node) (y .at)) q (ft (y .node) (y .at .is .tag-is)) (fz (y .node) (y .at .is .tag-is) (y .at .is .first-is)) (ap (λ b. h - b) ea) (m .unit) (m .slot));
           }

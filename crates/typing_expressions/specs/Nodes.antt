@@ -9,24 +9,27 @@ use Rattle.meaning.specs.declared.Kind.the-variants.{Int as int, Bool as bool}
 use Rattle.meaning.specs.declared.Refusal.the-variants.{WrongKind, WrongLength}
 use Rattle.meaning.specs.Codes.{_>>=_, _>>_, give, check}
 use Rattle.meaning.specs.Tokens.{the}
-use Rattle.meaning.specs.Tree.{Name, kind-number, _one-of_, Unary, Binary, Gives, a-bool, its-kind, table, unary-table, Expr, number, boolean, name, current-mask, unary, binary}
+use Rattle.meaning.specs.declared.Unary.{Unary}
+use Rattle.meaning.specs.declared.Binary.{Binary}
+use Rattle.meaning.specs.Tree.{Name, kind-number, _one-of_, Gives, a-bool, its-kind, table, unary-table, Expr, number, boolean, name, current-mask, unary, binary}
 use Rattle.meaning.specs.Memory.{bit}
 use Rattle.meaning.specs.Typing.{Types, accepts, gives-kind, match, joined, variable-named}
-use Rattle.layout.specs.Words.{binary-tag, unary-tag, boolean-tag}
+use Rattle.layout.specs.Words.{unit-words, binary-tag, unary-tag, boolean-tag}
+use Rattle.layout.specs.Stack.{slot-kind, slot-lanes}
 use Rattle.layout.specs.Table.{kind-of}
-use Rattle.layout.specs.Sound.{Spelled, stack-limit}
+use Rattle.laws.specs.Sound.{Spelled, stack-limit}
 
 -- A node of an expression: a constant, a name or current_mask, or an operator with its place.
-pub data Node : Type 0 where
-  a-number : ℕ → Node
-  a-boolean : Bool → Node
-  a-name : ℕ → Name → Node
-  a-mask : Node
-  a-unary : ℕ → Unary → Node
-  a-binary : ℕ → Binary → Node
+pub data Tree-node : Type 0 where
+  a-number : ℕ → Tree-node
+  a-boolean : Bool → Tree-node
+  a-name : ℕ → Name → Tree-node
+  a-mask : Tree-node
+  a-unary : ℕ → Unary → Tree-node
+  a-binary : ℕ → Binary → Tree-node
 
 -- The nodes of an expression.
-unfoldable pub nodes : Expr → List Node
+unfoldable pub nodes : Expr → List Tree-node
 nodes (number n) = a-number n ∷ []
 nodes (boolean b) = a-boolean b ∷ []
 nodes (name p x) = a-name p x ∷ []
@@ -35,7 +38,7 @@ nodes (unary p o e) = nodes e ++ (a-unary p o ∷ [])
 nodes (binary p o e e′) = nodes e ++ (nodes e′ ++ (a-binary p o ∷ []))
 
 -- The three words of a node in the tree.
-unfoldable pub node-tag : Node → ℕ
+unfoldable pub node-tag : Tree-node → ℕ
 node-tag (a-number n) = the "number"
 node-tag (a-boolean b) = boolean-tag b
 node-tag (a-name p x) = the "name"
@@ -43,7 +46,7 @@ node-tag a-mask = the "current_mask"
 node-tag (a-unary p o) = unary-tag o
 node-tag (a-binary p o) = binary-tag o
 
-unfoldable pub node-first : Node → ℕ
+unfoldable pub node-first : Tree-node → ℕ
 node-first (a-number n) = n
 node-first (a-boolean b) = 0
 node-first (a-name p x) = p
@@ -51,7 +54,7 @@ node-first a-mask = 0
 node-first (a-unary p o) = p
 node-first (a-binary p o) = p
 
-unfoldable pub node-second : Node → ℕ
+unfoldable pub node-second : Tree-node → ℕ
 node-second (a-number n) = 0
 node-second (a-boolean b) = 0
 node-second (a-name p x) = p + length x
@@ -59,12 +62,12 @@ node-second a-mask = 0
 node-second (a-unary p o) = 0
 node-second (a-binary p o) = 0
 
-unfoldable pub nodes-words : List Node → List ℕ
+unfoldable pub nodes-words : List Tree-node → List ℕ
 nodes-words [] = []
 nodes-words (n ∷ ns) = node-tag n ∷ node-first n ∷ node-second n ∷ nodes-words ns
 
 -- The tag of a node in the code: a boolean is a constant there.
-unfoldable pub code-tag : Node → ℕ
+unfoldable pub code-tag : Tree-node → ℕ
 code-tag (a-number n) = the "number"
 code-tag (a-boolean b) = the "number"
 code-tag (a-name p x) = the "name"
@@ -73,7 +76,7 @@ code-tag (a-unary p o) = unary-tag o
 code-tag (a-binary p o) = binary-tag o
 
 -- The third word of a node in the code: an operator's place.
-unfoldable pub code-place : Node → ℕ
+unfoldable pub code-place : Tree-node → ℕ
 code-place (a-number n) = 0
 code-place (a-boolean b) = 0
 code-place (a-name p x) = 0
@@ -82,7 +85,7 @@ code-place (a-unary p o) = p
 code-place (a-binary p o) = p
 
 -- How many operands it takes from the stack.
-unfoldable pub arity : Node → ℕ
+unfoldable pub arity : Tree-node → ℕ
 arity (a-number n) = 0
 arity (a-boolean b) = 0
 arity (a-name p x) = 0
@@ -106,7 +109,7 @@ abbrev pub Slot : Type 0
 Slot = Kind × ℕ
 
 -- Typing of a node over the operands on the stack, the last one first; it never meets a stack that is too short.
-unfoldable pub step : ℕ → Node → List Slot → Types Entry
+unfoldable pub step : ℕ → Tree-node → List Slot → Types Entry
 step C (a-number n) l = give (record { kind = int; lanes = 1; word = n })
 step C (a-boolean b) l = give (record { kind = bool; lanes = 1; word = bit b })
 step C (a-name p x) l = do
@@ -124,21 +127,26 @@ step C (a-binary p o) (b ∷ a ∷ l) = do
   check (match (a .1) (b .1)) WrongLength p
   give (record { kind = gives-kind ((table o) .2) (a .0); lanes = joined (a .1) (b .1); word = kind-number (a .0) })
 
--- The stack in its two buffers, h high.
-unfoldable pub slots : List ℕ → List ℕ → ℕ → List Slot
-slots kinds lengths zero = []
-slots kinds lengths (suc h) = (kind-of (getD kinds h 0), getD lengths h 0) ∷ slots kinds lengths h
+-- The stack in its buffer, h high.
+unfoldable pub slots : List ℕ → ℕ → List Slot
+slots stack zero = []
+slots stack (suc h) = (kind-of (slot-kind stack h), slot-lanes stack h) ∷ slots stack h
 
 -- Three words are those of a node, whose name stands in the text.
-pub record Is-node (text : List ℕ) (tag a b : ℕ) (n : Node) : Type 0 where
+pub record Is-node (text : List ℕ) (tag a b : ℕ) (n : Tree-node) : Type 0 where
   pub tag-is : node-tag n ≡ tag
   pub first-is : node-first n ≡ a
   pub second-is : node-second n ≡ b
   pub spells : (p : ℕ) (x : Name) → n ≡ a-name p x → Spelled text p x
 
+-- The same, of a node that takes no operands.
+pub record Is-leaf (text : List ℕ) (tag a b : ℕ) (n : Tree-node) : Type 0 where
+  pub is : Is-node text tag a b n
+  pub alone : arity n ≡ 0
+
 -- At word i of a tree stands a node that finds its operands and leaves no more than the stack holds.
-pub record Node-at (text tree : List ℕ) (i h : ℕ) (n : Node) : Type 0 where
-  pub inside : i + 3 ≤ length tree
+pub record Node-at (text tree : List ℕ) (i h : ℕ) (n : Tree-node) : Type 0 where
+  pub inside : i + unit-words ≤ length tree
   pub is : Is-node text (getD tree i 0) (getD tree (i + 1) 0) (getD tree (i + 2) 0) n
   pub operands : arity n ≤ h
   pub fits : h + 1 - arity n ≤ stack-limit

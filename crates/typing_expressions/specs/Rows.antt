@@ -5,11 +5,12 @@ use mathlib.Core.Bool.{true}
 use mathlib.Core.List.{List, _++_, map}
 use mathlib.Core.Option.{Option, none, some}
 use lib.ListN.{length, take, drop}
-use Rattle.meaning.specs.Codes.{_among_, lengths}
+use Rattle.meaning.specs.Codes.{_among_, lengths, text-limit, declaration-limit}
 use Rattle.meaning.specs.Tree.{Name}
 use Rattle.meaning.specs.Memory.{Declarations, whole}
 use Rattle.meaning.specs.Typing.{find, shut}
-use Rattle.layout.specs.Table.{word-of, kind-of, entries}
+use Rattle.layout.specs.Sizes.{table-room}
+use Rattle.layout.specs.Table.{word-of, kind-of, entries, place-column, end-column, kind-column, lanes-column, address-column}
 use Rattle.typing_expressions.specs.declared.Found.{Found}
 use Rattle.typing_expressions.specs.declared.Found.the-variants.{At, Nothing}
 
@@ -18,29 +19,33 @@ abbrev pub spelled : List ℕ → ℕ → ℕ → Name
 spelled text place end = take (end - place) (drop place text)
 
 -- The text has bytes from a place to an end.
-pub record Within (text : List ℕ) (place end : ℕ) : Type 0 where
+pub record Spans (text : List ℕ) (place end : ℕ) : Type 0 where
   pub order : place ≤ end
   pub inside : end ≤ length text
 
 -- "N is 1, 2, 4, 8 or 16": so is every length.
-pub record Listed (n : ℕ) : Type 0 where
+pub record Listed-length (n : ℕ) : Type 0 where
   pub is : n among lengths ≡ true
 
 -- The end of the last of some declarations.
 unfoldable pub end-of : List ℕ → ℕ → ℕ
 end-of table zero = 0
-end-of table (suc n) = word-of table n 4 + whole (kind-of (word-of table n 2)) (word-of table n 3)
+end-of table (suc n) = word-of table n address-column + whole (kind-of (word-of table n kind-column)) (word-of table n lanes-column)
 
--- A table of at most 64 declarations, with room for 64, of a text of at most 4,096 bytes: their names stand in the text, their
--- lengths are of the list, and they end before the last one's end, which is at most 64 bytes for each.
+-- The bytes of the largest variable: 16 ints.
+abbrev pub whole-limit : ℕ
+whole-limit = 16 * 4
+
+-- A table of declarations, with room for as many as a text may have, of a text within its limit: their names stand in the text,
+-- their lengths are of the list, and they end before the last one's end, which is at most the largest variable for each.
 pub record Rows (text table : List ℕ) (count : ℕ) : Type 0 where
-  pub short : length text ≤ 4096
-  pub few : count ≤ 64
-  pub room : 384 ≤ length table
-  pub names : (i : ℕ) → i < count → Within text (word-of table i 0) (word-of table i 1)
-  pub listed : (i : ℕ) → i < count → Listed (word-of table i 3)
+  pub short : length text ≤ text-limit
+  pub few : count ≤ declaration-limit
+  pub room : table-room ≤ length table
+  pub names : (i : ℕ) → i < count → Spans text (word-of table i place-column) (word-of table i end-column)
+  pub listed : (i : ℕ) → i < count → Listed-length (word-of table i lanes-column)
   pub ends : (i : ℕ) → i < count → end-of table (suc i) ≤ end-of table count
-  pub small : end-of table count ≤ 64 * count
+  pub small : end-of table count ≤ whole-limit * count
 
 -- The number that was found.
 unfoldable pub number-of : Found → Option ℕ
@@ -50,17 +55,6 @@ number-of Nothing = none
 -- The search has found what the definition finds: the open declaration of the name from a place to an end.
 pub record Finds (text table : List ℕ) (count place end : ℕ) (r : Found) : Type 0 where
   pub is : number-of r ≡ find (spelled text place end) 0 (entries text table count)
-
--- The table U has the n rows of the table T, and behind them a row that is open.
-pub record Added (T U : List ℕ) (n place end kind lanes address : ℕ) : Type 0 where
-  pub as-long : length U ≡ length T
-  pub before : (i k : ℕ) → i < n → k < 6 → word-of U i k ≡ word-of T i k
-  pub its-place : word-of U n 0 ≡ place
-  pub its-end : word-of U n 1 ≡ end
-  pub its-kind : word-of U n 2 ≡ kind
-  pub its-lanes : word-of U n 3 ≡ lanes
-  pub its-address : word-of U n 4 ≡ address
-  pub its-open : word-of U n 5 ≡ 1
 
 -- Declarations of which those from a number on are no longer open.
 unfoldable pub closed : ℕ → Declarations → Declarations

@@ -1,9 +1,9 @@
 -- Parts of word lists, and heads that are written in front of their parts.
-use Prim.Native.Nat.{ℕ, zero, suc, _+_, _-_, _≤_, _<_}
+use Prim.Native.Nat.{ℕ, zero, suc, _+_, _-_, _≤_}
 use native.Mathlib.Omega.{arith}
 use mathlib.Core.Path.{_≡_, refl, sym, ap, _∙_}
 use mathlib.Core.List.{List, [], _∷_, _++_, append-assoc}
-use lib.ListN.{length, getD, take, drop, length-append, length-take, length-drop}
+use lib.ListN.{length, take, drop, length-append, length-drop}
 use lib.Seq.{sets, sets-eq, length-sets, take-at, drop-at, take-take, drop-drop, take-append-le, take-append-add, length-take-le, take-all, take-append-seam, drop-append-seam}
 use Rattle.meaning.specs.Tokens.{the, numbered, reserved, words, signs, marks}
 use Rattle.meaning.specs.Program.{step}

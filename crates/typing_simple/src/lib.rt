@@ -1,69 +1,54 @@
 // The simple statements, which hold no other: each is typed, its declaration put in the table and its program written.
+use layout::Stage;
+use layout::UNIT;
+use layout::head;
 use layout::put_unit;
+use layout::tag;
+use layout::word;
 use meaning::Kind;
 use meaning::Refusal;
+use typing_expressions::Point;
 use typing_expressions::Typing;
-use typing_expressions::word;
+use typing_expressions::declare;
+use typing_expressions::expression;
+use typing_expressions::named;
+use typing_expressions::same_kind;
 ghost use mathlib.Core.Path.{_≡_};
 ghost use mathlib.Core.List.{_++_};
 ghost use Prim.Native.Nat.{ℕ, _+_, _≤_};
 ghost use lib.ListN.{length, take};
-ghost use Rattle.meaning.specs.Tree.{Block, Expr, Stmt};
 ghost use Rattle.meaning.specs.Program.{step};
 ghost use Rattle.meaning.specs.Typing as T;
-ghost use Rattle.layout.specs.Words.{unit, headed, kind-tag, block-length, block-place};
+ghost use Rattle.layout.specs.Words.{unit, unit-words, headed};
 ghost use Rattle.layout.specs.Code.{program-words};
-ghost use Rattle.layout.specs.Table.{entries};
-ghost use Rattle.layout.specs.Sound.{Placed};
-ghost use Rattle.typing_expressions.specs.Answers.{There-is, Expression, Ready, Shows};
-ghost use Rattle.typing_simple.specs.Shapes.{part, listed-block, Empty, Declaration, Plain, Initial, Assignment};
-ghost use Rattle.typing_simple.specs.Answers.{length-or, handed-up, valued, Bare, Steps-on, Open, Scoped, Walks};
+ghost use Rattle.layout.specs.Heads.{long-head};
+ghost use Rattle.layout.specs.Sizes.{tree-limit};
+ghost use Rattle.typing_expressions.specs.Answers.{There-is, Expression, Typing-room, Types-expression};
+ghost use Rattle.typing_simple.specs.Shapes.{part, Empty, Declaration, Plain-declaration, Initial-declaration, Assignment};
+ghost use Rattle.typing_simple.specs.Answers.{length-or, valued, Names-kind, Blocks-well, Plain-room, Types-empty, Scope-open, Scope-closed, Types-statement};
 
-// The tags that are read here: `int`, the number of its token. And those written: a step's and a put's, `;` and `=`.
-const INT: u32 = 16;
-
-const EMPTY: u32 = 52;
-
-const EQUALS: u32 = 59;
-
-// How many declarations there are and how many words of code; or the refusal and its place.
-pub enum Walked {
-    On { count: usize, size: usize },
-    Refused { refusal: Refusal, place: usize },
-}
-
-// Hands a refusal up.
-pub fn handed(one: Typing) -> Walked
-    ensures { λ r. ⌜ r ≡ handed-up one ⌝ }
-{
-    match one {
-        Typing::Typed {
-            kind: _,
-            length: _,
-            word: _,
-        } => Walked::Refused {
-            refusal: Refusal::UnknownName,
-            place: 0,
-        },
-        Typing::Refused { refusal, place } => Walked::Refused { refusal, place },
-    }
+// What an `=` writes to: the place of the `=`, a kind, and a length, or 0 for any.
+struct Target {
+    place: usize,
+    kind: Kind,
+    lanes: u32,
 }
 
 // Writes the one unit of a step behind the first `size` words.
 fn put_step(code: &mut [u32], size: usize, place: u32)
-    requires { ⌜ size + 3 ≤ length (now code) ⌝ }
-    ensures { λ _. ⌜ take (size + 3) (now (code .exit)) ≡ take size (now (code .entry)) ++ program-words (step place) ⌝ }
+    requires { ⌜ size + unit-words ≤ length (now code) ⌝ }
+    ensures { λ _. ⌜ take (size + unit-words) (now (code .exit)) ≡ take size (now (code .entry)) ++ program-words (step place) ⌝ }
 {
-    put_unit(code, size, EMPTY, place, 0);
+    put_unit(code, size, tag::STEP, place, 0);
 }
 
-// Writes a head of six words in front of its parts, which end at `end`.
+// Writes a long head in front of its parts, which end at `end`.
 pub fn put_head(code: &mut [u32], size: usize, tag: u32, place: u32, a: u32, b: u32, end: usize)
-    requires { ⌜ (size + 6 ≤ end) × (end ≤ length (now code)) × (end ≤ 12288) ⌝ }
-    ensures { λ _. ⌜ take end (now (code .exit)) ≡ take size (now (code .entry)) ++ headed tag place (unit a b 0) (part (now (code .entry)) (size + 6) end) ⌝ }
+    requires { ⌜ (size + long-head ≤ end) × (end ≤ length (now code)) × (end ≤ tree-limit) ⌝ }
+    ensures { λ _. ⌜ take end (now (code .exit)) ≡ take size (now (code .entry)) ++ headed tag place (unit a b 0) (part (now (code .entry)) (size + long-head) end) ⌝ }
 {
-    put_unit(code, size, tag, place, (end - size - 3) as u32);
-    put_unit(code, size + 3, a, b, 0);
+    put_unit(code, size, tag, place, (end - size - UNIT) as u32);
+    put_unit(code, size + UNIT, a, b, 0);
 }
 
 // The declared length, or that of the value where none is declared.
@@ -73,36 +58,21 @@ fn length_or(m: u32, n: u32) -> u32
     if m == 0 { n } else { m }
 }
 
-// Types the right side of an `=`, for a target of a kind and a length, or any length where that is 0: its expression, then 8, 9, 10.
+// Types the right side of an `=`: its expression, then 8, 9, 10.
 fn value(
     text: &[u8],
     tree: &[u32],
     table: &[u32],
-    count: usize,
-    context: u32,
-    place: usize,
-    kind: Kind,
-    lanes: u32,
+    at: Point,
+    target: Target,
     code: &mut [u32],
-    size: usize,
-    kinds: &mut [u8],
-    lengths: &mut [u32],
+    stack: &mut [u32],
 ) -> Typing
-    requires { ⌜ Ready (now text) (now tree) (now table) (now code) (now kinds) (now lengths) context count size ⌝ }
+    requires { ⌜ Typing-room (now text) (now tree) (now table) (now code) (now stack) at ⌝ }
     requires { ⌜ There-is (Expression (now text) (now tree)) ⌝ }
-    ensures { λ r. ⌜ ((e : Expr) → Expression (now (text .entry)) (now (tree .entry)) e → Shows (take size (now (code .entry))) (now (code .exit)) (size + length (now (tree .entry))) (entries (now (text .entry)) (now (table .entry)) count) r (valued context place kind lanes e (entries (now (text .entry)) (now (table .entry)) count))) ⌝ }
+    ensures { λ r. ⌜ Types-expression (valued (at .context) target) at (now (text .entry)) (now (tree .entry)) (now (table .entry)) (now (code .entry)) (now (code .exit)) r ⌝ }
 {
-    let right = typing_expressions::expression(
-        text,
-        tree,
-        table,
-        count,
-        context,
-        code,
-        size,
-        kinds,
-        lengths,
-    );
+    let right = expression(text, tree, table, at, code, stack);
     let Typing::Typed {
         kind: k,
         length: n,
@@ -111,8 +81,11 @@ fn value(
     else {
         return right;
     };
-    let length = length_or(lanes, n);
-    if !typing_expressions::same_kind(k, kind) {
+    let context = at.context;
+    let kind = target.kind;
+    let place = target.place;
+    let length = length_or(target.lanes, n);
+    if !same_kind(k, kind) {
         return Typing::Refused {
             refusal: Refusal::WrongKind,
             place,
@@ -138,44 +111,26 @@ pub fn condition(
     text: &[u8],
     tree: &[u32],
     table: &[u32],
-    count: usize,
-    context: u32,
+    at: Point,
     place: usize,
     code: &mut [u32],
-    size: usize,
-    kinds: &mut [u8],
-    lengths: &mut [u32],
+    stack: &mut [u32],
 ) -> Typing
-    requires { ⌜ Ready (now text) (now tree) (now table) (now code) (now kinds) (now lengths) context count size ⌝ }
+    requires { ⌜ Typing-room (now text) (now tree) (now table) (now code) (now stack) at ⌝ }
     requires { ⌜ There-is (Expression (now text) (now tree)) ⌝ }
-    ensures { λ r. ⌜ ((e : Expr) → Expression (now (text .entry)) (now (tree .entry)) e → Shows (take size (now (code .entry))) (now (code .exit)) (size + length (now (tree .entry))) (entries (now (text .entry)) (now (table .entry)) count) r (T.typed-condition context place e (entries (now (text .entry)) (now (table .entry)) count))) ⌝ }
+    ensures { λ r. ⌜ Types-expression (T.typed-condition (at .context) place) at (now (text .entry)) (now (tree .entry)) (now (table .entry)) (now (code .entry)) (now (code .exit)) r ⌝ }
 {
-    let test = typing_expressions::expression(
-        text,
-        tree,
-        table,
-        count,
-        context,
-        code,
-        size,
-        kinds,
-        lengths,
-    );
-    let Typing::Typed {
-        kind,
-        length: _,
-        word: _,
-    } = test
-    else {
+    let test = expression(text, tree, table, at, code, stack);
+    let Typing::Typed { kind, length, word } = test else {
         return test;
     };
-    if !typing_expressions::same_kind(kind, Kind::Bool) {
+    if !same_kind(kind, Kind::Bool) {
         return Typing::Refused {
             refusal: Refusal::WrongKind,
             place,
         };
     }
-    test
+    Typing::Typed { kind, length, word }
 }
 
 // Types an assignment: 5, 9 at the target, the right side, then 8, 9, 10 at `=`.
@@ -183,66 +138,64 @@ pub fn assignment(
     text: &[u8],
     tree: &[u32],
     table: &[u32],
-    count: usize,
-    context: u32,
+    at: Point,
     code: &mut [u32],
-    size: usize,
-    kinds: &mut [u8],
-    lengths: &mut [u32],
-) -> Walked
-    requires { ⌜ Ready (now text) (now tree) (now table) (now code) (now kinds) (now lengths) context count size ⌝ }
+    stack: &mut [u32],
+) -> Stage
+    requires { ⌜ Typing-room (now text) (now tree) (now table) (now code) (now stack) at ⌝ }
     requires { ⌜ There-is (Assignment (now text) (now tree)) ⌝ }
-    ensures { λ r. ⌜ ((s : Stmt) → Assignment (now (text .entry)) (now (tree .entry)) s → Walks (now (text .entry)) (now (table .entry)) (take size (now (code .entry))) (now (code .exit)) count (size + length (now (tree .entry))) r (T.typed-statement context s (entries (now (text .entry)) (now (table .entry)) count))) ⌝ }
+    ensures { λ r. ⌜ Types-statement Assignment at (now (text .entry)) (now (tree .entry)) (now (table .entry)) (now (table .entry)) (now (code .entry)) (now (code .exit)) r ⌝ }
 {
-    let place = word(tree, 1);
-    let end = word(tree, 3);
-    let target = typing_expressions::named(text, table, count, context, place, end);
-    let Typing::Typed {
-        kind,
-        length,
-        word: number,
-    } = target
-    else {
-        return handed(target);
-    };
-    let equals = word(tree, 4);
-    let right = value(
-        text,
-        &tree[6..],
-        table,
-        count,
-        context,
-        equals,
-        kind,
-        length,
-        code,
-        size + 6,
-        kinds,
-        lengths,
-    );
-    let Typing::Typed {
-        kind: _,
-        length: _,
-        word: _,
-    } = right
-    else {
-        return handed(right);
-    };
-    let all = size + tree.len();
-    put_head(code, size, EQUALS, tree[1], number, 0, all);
-    Walked::On { count, size: all }
+    let size = at.size;
+    let place = word(tree, head::PLACE);
+    let end = word(tree, head::TARGET_END);
+    let equals = word(tree, head::EQUALS);
+    match named(text, table, at, place, end) {
+        Typing::Refused { refusal, place } => Stage::Refused { refusal, place },
+        Typing::Typed {
+            kind,
+            length,
+            word: number,
+        } => {
+            let target = Target {
+                place: equals,
+                kind,
+                lanes: length,
+            };
+            let inside = Point {
+                context: at.context,
+                count: at.count,
+                size: size + head::LONG,
+            };
+            let words = &tree[head::LONG..];
+            let right = value(text, words, table, inside, target, code, stack);
+            if let Typing::Refused { refusal, place } = right {
+                return Stage::Refused { refusal, place };
+            }
+            let all = size + tree.len();
+            put_head(code, size, tag::PUT, tree[head::PLACE], number, 0, all);
+            Stage::Done {
+                count: at.count,
+                size: all,
+            }
+        }
+    }
 }
 
 // The kind that the first token of a declaration names.
 fn kind_named(tag: u32) -> Kind
-    ensures { λ r. ⌜ ((k : Kind) → kind-tag k ≡ tag → r ≡ k) ⌝ }
+    ensures { λ r. ⌜ Names-kind tag r ⌝ }
 {
-    if tag == INT { Kind::Int } else { Kind::Bool }
+    if tag == tag::INT {
+        Kind::Int
+    } else {
+        Kind::Bool
+    }
 }
 
 // There is no `block[N]`, or its N is one of the list.
 fn good_block(n: u32, place: usize) -> bool
-    ensures { λ r. ⌜ ((b : Block) → Placed b → block-length b ≡ n → block-place b ≡ place → r ≡ listed-block b) ⌝ }
+    ensures { λ r. ⌜ Blocks-well n place r ⌝ }
 {
     (place == 0) | typing_expressions::listed(n)
 }
@@ -252,32 +205,26 @@ fn plain(
     text: &[u8],
     tree: &[u32],
     table: &mut [u32],
-    count: usize,
-    context: u32,
+    at: Point,
     kind: Kind,
     code: &mut [u32],
-    size: usize,
-) -> Walked
-    requires { ⌜ Bare (now text) (now tree) (now table) (now code) count size ⌝ }
-    requires { ⌜ There-is (Plain (now text) (now tree) kind) ⌝ }
-    ensures { λ r. ⌜ ((s : Stmt) → Plain (now (text .entry)) (now (tree .entry)) kind s → Walks (now (text .entry)) (now (table .exit)) (take size (now (code .entry))) (now (code .exit)) count (size + length (now (tree .entry))) r (T.typed-statement context s (entries (now (text .entry)) (now (table .entry)) count))) ⌝ }
+) -> Stage
+    requires { ⌜ Plain-room (now text) (now tree) (now table) (now code) at ⌝ }
+    requires { ⌜ There-is (Plain-declaration kind (now text) (now tree)) ⌝ }
+    ensures { λ r. ⌜ Types-statement (Plain-declaration kind) at (now (text .entry)) (now (tree .entry)) (now (table .entry)) (now (table .exit)) (now (code .entry)) (now (code .exit)) r ⌝ }
 {
-    let lanes = length_or(tree[3], 1);
-    let place = word(tree, 5);
-    let end = word(tree, 6);
-    let new = typing_expressions::declare(text, table, count, context, kind, lanes, place, end);
-    let Typing::Typed {
-        kind: _,
-        length: _,
-        word: _,
-    } = new
-    else {
-        return handed(new);
-    };
-    put_step(code, size, tree[1]);
-    Walked::On {
-        count: count + 1,
-        size: size + 3,
+    let size = at.size;
+    let lanes = length_or(tree[head::LENGTH], 1);
+    let place = word(tree, head::NAME);
+    let end = word(tree, head::NAME_END);
+    let new = declare(text, table, at, kind, lanes, place, end);
+    if let Typing::Refused { refusal, place } = new {
+        return Stage::Refused { refusal, place };
+    }
+    put_step(code, size, tree[head::PLACE]);
+    Stage::Done {
+        count: at.count + 1,
+        size: size + UNIT,
     }
 }
 
@@ -286,56 +233,41 @@ fn initial(
     text: &[u8],
     tree: &[u32],
     table: &mut [u32],
-    count: usize,
-    context: u32,
+    at: Point,
     kind: Kind,
     code: &mut [u32],
-    size: usize,
-    kinds: &mut [u8],
-    lengths: &mut [u32],
-) -> Walked
-    requires { ⌜ Ready (now text) (now tree) (now table) (now code) (now kinds) (now lengths) context count size ⌝ }
-    requires { ⌜ There-is (Initial (now text) (now tree) kind) ⌝ }
-    ensures { λ r. ⌜ ((s : Stmt) → Initial (now (text .entry)) (now (tree .entry)) kind s → Walks (now (text .entry)) (now (table .exit)) (take size (now (code .entry))) (now (code .exit)) count (size + length (now (tree .entry))) r (T.typed-statement context s (entries (now (text .entry)) (now (table .entry)) count))) ⌝ }
+    stack: &mut [u32],
+) -> Stage
+    requires { ⌜ Typing-room (now text) (now tree) (now table) (now code) (now stack) at ⌝ }
+    requires { ⌜ There-is (Initial-declaration kind (now text) (now tree)) ⌝ }
+    ensures { λ r. ⌜ Types-statement (Initial-declaration kind) at (now (text .entry)) (now (tree .entry)) (now (table .entry)) (now (table .exit)) (now (code .entry)) (now (code .exit)) r ⌝ }
 {
-    let equals = word(tree, 7);
-    let right = value(
-        text,
-        &tree[9..],
-        table,
-        count,
-        context,
-        equals,
+    let size = at.size;
+    let target = Target {
+        place: word(tree, head::VALUE),
         kind,
-        tree[3],
-        code,
-        size + 6,
-        kinds,
-        lengths,
-    );
-    let Typing::Typed {
-        kind: _,
-        length,
-        word: _,
-    } = right
-    else {
-        return handed(right);
+        lanes: tree[head::LENGTH],
     };
-    let place = word(tree, 5);
-    let end = word(tree, 6);
-    let new = typing_expressions::declare(text, table, count, context, kind, length, place, end);
-    let Typing::Typed {
-        kind: _,
-        length: _,
-        word: number,
-    } = new
-    else {
-        return handed(new);
+    let inside = Point {
+        context: at.context,
+        count: at.count,
+        size: size + head::LONG,
     };
-    let all = size + (tree.len() - 3);
-    put_head(code, size, EQUALS, tree[1], number, 0, all);
-    Walked::On {
-        count: count + 1,
+    let words = &tree[head::DECLARATION..];
+    let length = match value(text, words, table, inside, target, code, stack) {
+        Typing::Typed { length, .. } => length,
+        Typing::Refused { refusal, place } => return Stage::Refused { refusal, place },
+    };
+    let place = word(tree, head::NAME);
+    let end = word(tree, head::NAME_END);
+    let number = match declare(text, table, at, kind, length, place, end) {
+        Typing::Typed { word, .. } => word,
+        Typing::Refused { refusal, place } => return Stage::Refused { refusal, place },
+    };
+    let all = size + (tree.len() - (head::DECLARATION - head::LONG));
+    put_head(code, size, tag::PUT, tree[head::PLACE], number, 0, all);
+    Stage::Done {
+        count: at.count + 1,
         size: all,
     }
 }
@@ -345,62 +277,49 @@ pub fn declaration(
     text: &[u8],
     tree: &[u32],
     table: &mut [u32],
-    count: usize,
-    context: u32,
+    at: Point,
     code: &mut [u32],
-    size: usize,
-    kinds: &mut [u8],
-    lengths: &mut [u32],
-) -> Walked
-    requires { ⌜ Ready (now text) (now tree) (now table) (now code) (now kinds) (now lengths) context count size ⌝ }
+    stack: &mut [u32],
+) -> Stage
+    requires { ⌜ Typing-room (now text) (now tree) (now table) (now code) (now stack) at ⌝ }
     requires { ⌜ There-is (Declaration (now text) (now tree)) ⌝ }
-    ensures { λ r. ⌜ ((s : Stmt) → Declaration (now (text .entry)) (now (tree .entry)) s → Walks (now (text .entry)) (now (table .exit)) (take size (now (code .entry))) (now (code .exit)) count (size + length (now (tree .entry))) r (T.typed-statement context s (entries (now (text .entry)) (now (table .entry)) count))) ⌝ }
+    ensures { λ r. ⌜ Types-statement Declaration at (now (text .entry)) (now (tree .entry)) (now (table .entry)) (now (table .exit)) (now (code .entry)) (now (code .exit)) r ⌝ }
 {
-    let kind = kind_named(tree[0]);
-    let place = word(tree, 4);
-    if !good_block(tree[3], place) {
-        return Walked::Refused {
+    let kind = kind_named(tree[head::TAG]);
+    let place = word(tree, head::LENGTH_PLACE);
+    if !good_block(tree[head::LENGTH], place) {
+        return Stage::Refused {
             refusal: Refusal::LengthNotListed,
             place,
         };
     }
-    if tree[7] == 0 {
-        return plain(text, tree, table, count, context, kind, code, size);
+    if tree[head::VALUE] == 0 {
+        return plain(text, tree, table, at, kind, code);
     }
-    initial(
-        text,
-        tree,
-        table,
-        count,
-        context,
-        kind,
-        code,
-        size,
-        kinds,
-        lengths,
-    )
+    initial(text, tree, table, at, kind, code, stack)
 }
 
 // Types `;`.
-pub fn empty(tree: &[u32], count: usize, code: &mut [u32], size: usize) -> Walked
-    requires { ⌜ There-is (Empty (now tree)) × (size + 3 ≤ length (now code)) ⌝ }
-    ensures { λ r. ⌜ ((s : Stmt) → Empty (now (tree .entry)) s → Steps-on count size s (now (code .entry)) (now (code .exit)) r) ⌝ }
+pub fn empty(tree: &[u32], at: Point, code: &mut [u32]) -> Stage
+    requires { ⌜ There-is (Empty (now tree)) × (at .size + unit-words ≤ length (now code)) ⌝ }
+    ensures { λ r. ⌜ Types-empty at (now (tree .entry)) (now (code .entry)) (now (code .exit)) r ⌝ }
 {
-    put_step(code, size, tree[1]);
-    Walked::On {
-        count,
-        size: size + 3,
+    let size = at.size;
+    put_step(code, size, tree[head::PLACE]);
+    Stage::Done {
+        count: at.count,
+        size: size + UNIT,
     }
 }
 
 // Ends the scope of what was declared from a number on.
-pub fn scoped(one: Walked, table: &mut [u32], from: usize) -> Walked
-    requires { ⌜ ((n z : ℕ) → one ≡ Walked.On n z → Open from n (now table)) ⌝ }
-    ensures { λ r. ⌜ Scoped from one (now (table .entry)) (now (table .exit)) r ⌝ }
+pub fn scoped(one: Stage, table: &mut [u32], from: usize) -> Stage
+    requires { ⌜ ((n z : ℕ) → one ≡ Stage.Done n z → Scope-open from n (now table)) ⌝ }
+    ensures { λ r. ⌜ Scope-closed from one (now (table .entry)) (now (table .exit)) r ⌝ }
 {
-    let Walked::On { count, size: _ } = one else {
+    let Stage::Done { count, size } = one else {
         return one;
     };
     typing_expressions::close(table, from, count);
-    one
+    Stage::Done { count, size }
 }

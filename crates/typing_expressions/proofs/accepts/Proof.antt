@@ -12,7 +12,7 @@ same-kind-requires c κs = search needs
 
 returns : tie.Need-returns
 unfolding accepts
-returns c = λ o h. rw (c .before .takes .ensures o h, c .same-kind .ensures)
+returns c = rw (c .before .takes .ensures, c .same-kind .ensures)
 
 pub accepts-spec : {M : Type 1} → statement M
 accepts-spec = tie.close (tie.spec takes-requires same-kind-requires returns)

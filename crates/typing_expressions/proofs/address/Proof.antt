@@ -2,7 +2,7 @@
 use mathlib.Core.Path.{_∙_}
 use native.Mathlib.Omega.{arith}
 use borrow.Author.Needs.{needs}
-use Rattle.typing_expressions.proofs.Tables.{listed-few, whole-size, need-entries}
+use Rattle.typing_expressions.proofs.Tables.{whole-size, need-entries}
 use Rattle.typing_expressions.proofs.address.Statement.{statement}
 use Rattle.typing_expressions.proofs.address.Tie as tie
 
@@ -10,7 +10,7 @@ need-requires : tie.Need-need-requires
 need-requires c κs = search needs
 
 whole-requires : tie.Need-whole-requires
-whole-requires c κs = listed-few (c .before .before .pre .1)
+whole-requires c κs = c .before .before .pre .1
 
 next-multiple-requires : tie.Need-next-multiple-requires
 next-multiple-requires c κs = let p = c .before .before .before .pre in let z = whole-size (c .before .before .before .args .kind) (p .1) in

@@ -11,14 +11,15 @@ accepts-requires c κs = search needs
 
 returns : tie.Need-returns
 unfolding step entry-out
-returns c = λ o C l Γ h. record { is = rw (← c .before .accepts .ensures o h, not-true (c .before .accepts .result) (c .if1 .taken)) }
+returns c = λ C l Γ. record { is = rw (← c .before .accepts .ensures, not-true (c .before .accepts .result) (c .if1 .taken)) }
 
 matches-requires : tie.Need-matches-requires
 matches-requires c κs = search needs
 
 returns-2 : tie.Need-returns-2
 unfolding step entry-out
-returns-2 c = λ o C l Γ h. record { is = rw (← c .before .before .before .accepts .ensures o h, not-false (c .before .before .before .accepts .result) (c .before .before .if1 .left), ← c .before .matches .ensures, not-true (c .before .matches .result) (c .if2 .taken)) }
+returns-2 c = let first = c .before .before in
+    λ C l Γ. record { is = rw (← first .before .accepts .ensures, not-false (first .before .accepts .result) (first .if1 .left), ← c .before .matches .ensures, not-true (c .before .matches .result) (c .if2 .taken)) }
 
 gives-requires : tie.Need-gives-requires
 gives-requires c κs = search needs
@@ -31,7 +32,19 @@ kind-number-requires c κs = search needs
 
 returns-3 : tie.Need-returns-3
 unfolding step entry-out
-returns-3 c = λ o C l Γ h. record { is = rw (← c .before .before .before .before .before .before .accepts .ensures o h, not-false (c .before .before .before .before .before .before .accepts .result) (c .before .before .before .before .before .if1 .left), ← c .before .before .before .before .matches .ensures, not-false (c .before .before .before .before .matches .result) (c .before .before .before .if2 .left), c .before .before .gives .ensures o h, c .before .joined .ensures, c .kind-number .ensures) }
+returns-3 c = let second = c .before .before .before in
+    let first = second .before .before in
+    λ C l Γ. record {
+      is = rw (
+        ← first .before .accepts .ensures,
+        not-false (first .before .accepts .result) (first .if1 .left),
+        ← second .before .matches .ensures,
+        not-false (second .before .matches .result) (second .if2 .left),
+        c .before .before .gives .ensures,
+        c .before .joined .ensures,
+        c .kind-number .ensures,
+      );
+    }
 
 pub binary-spec : {M : Type 1} → statement M
 binary-spec =

@@ -1,9 +1,16 @@
 -- `typing_expressions::declare` meets its contract. Assumes nothing.
 use borrow.Author.Tests.{not-true, not-false}
-use borrow.Author.Needs.{needs}
 use Rattle.typing_expressions.proofs.Steps.{declare-9, declare-6, declare-11, declare-ok}
+use borrow.Author.Needs.{needs}
 use Rattle.typing_expressions.proofs.declare.Statement.{statement}
 use Rattle.typing_expressions.proofs.declare.Tie as tie
+
+-- Earlier places, from later ones.
+abbrev start-at-address : tie.After-address → tie.Start
+start-at-address c = c .before .before .before .before .before .before .before .before .before .before .before
+
+abbrev fits2-at-address : tie.After-address → tie.After-fits2
+fits2-at-address c = c .before .before .before .before .before .before .before .before
 
 fits-requires : tie.Need-fits-requires
 fits-requires c κs = search needs
@@ -35,8 +42,14 @@ returns-3 c = declare-11 (c .before .before .before .before .before .before .fit
 address-requires : tie.Need-address-requires
 address-requires c κs = search needs
 
-put-row-requires : tie.Need-put-row-requires
-put-row-requires c κs = search needs
+cast-put : tie.Need-cast-put
+cast-put c = search needs
+
+cast-put-2 : tie.Need-cast-put-2
+cast-put-2 c = search needs
+
+put-requires : tie.Need-put-requires
+put-requires c κs = search needs
 
 cast-t23 : tie.Need-cast-t23
 cast-t23 c = search needs
@@ -45,8 +58,8 @@ same-length-3 : tie.Need-same-length-3
 same-length-3 c = search needs
 
 returns-4 : tie.Need-returns-4
-returns-4 c = let p = c .before .before .before .before .before .before .before .before .before .before .before .before .before .before .before .pre in
-    declare-ok (c .before .before .before .before .before .before .before .before .before .before .before .before .fits2 .ensures) (not-false (c .before .before .before .before .before .before .before .before .before .before .before .before .fits2 .result) (c .before .before .before .before .before .before .before .before .before .before .before .if1 .left)) (c .before .before .before .before .before .before .before .before .before .find .ensures) (c .before .before .before .before .before .before .before .enum-told .given .1) (c .before .before .before .before .before .before .if2 .left) (p .0) (p .1 .0) (p .1 .1) (rw (c .before .before .before .before .address .ensures) at (c .before .before .put-row .ensures))
+returns-4 c = let start = start-at-address (c .before .before .before .before) in
+    declare-ok (fits2-at-address (c .before .before .before .before) .fits2 .ensures) (not-false (fits2-at-address (c .before .before .before .before) .fits2 .result) (c .before .before .before .before .before .before .before .before .before .before .before .if1 .left)) (c .before .before .before .before .before .before .before .before .before .find .ensures) (c .before .before .before .before .before .before .before .enum-told .given .1) (c .before .before .before .before .before .before .if2 .left) (start .pre .0) (start .pre .1 .0) (start .pre .1 .1) (c .before .before .before .before .address .ensures) (c .before .before .put .ensures)
 
 pub declare-spec : {M : Type 1} → statement M
 declare-spec =
@@ -62,7 +75,9 @@ declare-spec =
     same-length-2
     returns-3
     address-requires
-    put-row-requires
+    cast-put
+    cast-put-2
+    put-requires
     cast-t23
     same-length-3
     returns-4)

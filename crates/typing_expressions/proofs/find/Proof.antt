@@ -1,16 +1,16 @@
 -- `typing_expressions::find` meets its contract. Assumes nothing.
+use borrow.Author.Needs.{needs}
 use Prim.Native.Nat.{_+_, _-_}
 use mathlib.Core.Path.{_≡_, refl}
 use mathlib.Core.Bool.{true, _&&_}
 use native.Mathlib.Omega.{arith}
 use lib.Dec.{eqb}
-use borrow.Author.Needs.{needs}
-use Rattle.typing_expressions.proofs.Names.{Next, Same, Sought, sought-start, sought-none, next-row, same-start, same-next, skipped, differs, found}
+use Rattle.typing_expressions.proofs.Names.{Next, Same-bytes, Sought, sought-start, sought-none, next-row, same-start, same-next, skipped, differs, found}
 use Rattle.typing_expressions.proofs.find.Statement.{statement}
 use Rattle.typing_expressions.proofs.find.Tie as tie
 
 abbrev Inv-loop : tie.InvT-loop
-Inv-loop text table count place end i number from to «open» k₀ k = Next text table count place end number from to «open» × Same text from to place end k × ((eqb «open» 1 && eqb (to - from) (end - place)) ≡ true) × (i ≡ number + 1)
+Inv-loop text table count place end i number from to «open» k₀ k = Next text table count place end number from to «open» × Same-bytes text from to place end k × ((eqb «open» 1 && eqb (to - from) (end - place)) ≡ true) × (i ≡ number + 1)
 
 abbrev μ-loop : tie.MeasureT-loop
 μ-loop text table count place end i number from to «open» k₀ k = to - k
@@ -27,32 +27,29 @@ declarations-holds c = sought-start
 add-i : tie.Need-add-i Inv-loop μ-loop Inv-declarations μ-declarations
 add-i c = omega (arith, c .before .declarations .inv .low, c .before .before .before .before .pre .0 .few)
 
-word-of-requires : tie.Need-word-of-requires Inv-loop μ-loop Inv-declarations μ-declarations
-word-of-requires c κs = omega (arith, c .before .declarations .inv .low, c .before .before .before .before .pre .0 .few, c .before .before .before .before .pre .0 .room, c .if1 .left)
+place-requires : tie.Need-place-requires Inv-loop μ-loop Inv-declarations μ-declarations
+place-requires c κs = let rows = c .before .before .before .before .pre .0 in omega (arith, c .before .declarations .inv .low, rows .few, rows .room, c .if1 .left)
 
-cast-from : tie.Need-cast-from Inv-loop μ-loop Inv-declarations μ-declarations
-cast-from c = search needs
+end-requires : tie.Need-end-requires Inv-loop μ-loop Inv-declarations μ-declarations
+end-requires c κs = let rows = c .before .before .before .before .before .pre .0 in omega (arith, c .before .before .declarations .inv .low, rows .few, rows .room, c .before .if1 .left)
 
-word-of-requires-2 : tie.Need-word-of-requires-2 Inv-loop μ-loop Inv-declarations μ-declarations
-word-of-requires-2 c κs = omega (arith, c .before .before .declarations .inv .low, c .before .before .before .before .before .pre .0 .few, c .before .before .before .before .before .pre .0 .room, c .before .if1 .left)
-
-cast-to : tie.Need-cast-to Inv-loop μ-loop Inv-declarations μ-declarations
-cast-to c = search needs
-
-word-of-requires-3 : tie.Need-word-of-requires-3 Inv-loop μ-loop Inv-declarations μ-declarations
-word-of-requires-3 c κs = omega (arith, c .before .before .before .declarations .inv .low, c .before .before .before .before .before .before .pre .0 .few, c .before .before .before .before .before .before .pre .0 .room, c .before .before .if1 .left)
+open-requires : tie.Need-open-requires Inv-loop μ-loop Inv-declarations μ-declarations
+open-requires c κs = let rows = c .before .before .before .before .before .before .pre .0 in omega (arith, c .before .before .before .declarations .inv .low, rows .few, rows .room, c .before .before .if1 .left)
 
 sub-if2 : tie.Need-sub-if2 Inv-loop μ-loop Inv-declarations μ-declarations
-sub-if2 c = (next-row (c .before .before .before .before .before .before .before .pre .0) (c .before .before .before .before .before .before .before .pre .1) (c .before .before .before .before .declarations .inv) (c .before .before .before .if1 .left) (c .before .before .word-of .ensures) (c .before .word-of2 .ensures) (c .word-of3 .ensures)) .own .order
+sub-if2 c = let start = c .before .before .before .before .before .before .before in
+    (next-row (start .pre .0) (start .pre .1) (c .before .before .before .before .declarations .inv) (c .before .before .before .if1 .left) (c .before .before .place .ensures) (c .before .end .ensures) (c .«open» .ensures)) .own .order
 
 sub-if2-2 : tie.Need-sub-if2-2 Inv-loop μ-loop Inv-declarations μ-declarations
 sub-if2-2 c = c .before .before .before .before .before .before .before .pre .1 .order
 
 loop-holds : tie.Need-loop-holds Inv-loop μ-loop Inv-declarations μ-declarations
-loop-holds c = let r = next-row (c .before .before .before .before .before .before .before .before .pre .0) (c .before .before .before .before .before .before .before .before .pre .1) (c .before .before .before .before .before .declarations .inv) (c .before .before .before .before .if1 .left) (c .before .before .before .word-of .ensures) (c .before .before .word-of2 .ensures) (c .before .word-of3 .ensures) in (r, same-start r (c .if2 .taken), c .if2 .taken, refl)
+loop-holds c = let start = c .before .before .before .before .before .before .before .before in
+    let row = next-row (start .pre .0) (start .pre .1) (c .before .before .before .before .before .declarations .inv) (c .before .before .before .before .if1 .left) (c .before .before .before .place .ensures) (c .before .before .end .ensures) (c .before .«open» .ensures) in
+    (row, same-start row (c .if2 .taken), c .if2 .taken, refl)
 
 add-loop : tie.Need-add-loop Inv-loop μ-loop Inv-declarations μ-declarations
-add-loop c = omega (arith, c .loop .inv .1 .inside, c .loop .inv .1 .first .inside, c .before .before .before .before .before .before .before .before .before .pre .0 .short)
+add-loop c = let both = c .loop .inv .1 in omega (arith, both .inside, both .first .inside, c .before .before .before .before .before .before .before .before .before .pre .0 .short)
 
 add-if3 : tie.Need-add-if3 Inv-loop μ-loop Inv-declarations μ-declarations
 add-if3 c = search needs
@@ -88,7 +85,8 @@ declarations-less-2 c = search needs
 
 declarations-again-2 :
     tie.Need-declarations-again-2 Inv-loop μ-loop Inv-declarations μ-declarations
-declarations-again-2 c = skipped (next-row (c .before .before .before .before .before .before .before .before .pre .0) (c .before .before .before .before .before .before .before .before .pre .1) (c .before .before .before .before .before .declarations .inv) (c .before .before .before .before .if1 .left) (c .before .before .before .word-of .ensures) (c .before .before .word-of2 .ensures) (c .before .word-of3 .ensures)) (c .if2 .left)
+declarations-again-2 c = let start = c .before .before .before .before .before .before .before .before in
+    skipped (next-row (start .pre .0) (start .pre .1) (c .before .before .before .before .before .declarations .inv) (c .before .before .before .before .if1 .left) (c .before .before .before .place .ensures) (c .before .before .end .ensures) (c .before .«open» .ensures)) (c .if2 .left)
 
 returns : tie.Need-returns Inv-loop μ-loop Inv-declarations μ-declarations
 returns c = sought-none (c .before .declarations .inv) (c .if1 .taken)
@@ -106,11 +104,9 @@ find-spec =
     μ-declarations
     declarations-holds
     add-i
-    word-of-requires
-    cast-from
-    word-of-requires-2
-    cast-to
-    word-of-requires-3
+    place-requires
+    end-requires
+    open-requires
     sub-if2
     sub-if2-2
     loop-holds

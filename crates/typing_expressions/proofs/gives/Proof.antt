@@ -1,6 +1,7 @@
 -- `typing_expressions::gives` meets its contract. Assumes nothing.
 use mathlib.Core.Path.{sym, _∙_}
 use borrow.Author.Needs.{needs}
+use Rattle.meaning.specs.Tree.{table}
 use Rattle.typing_expressions.proofs.Tags.{gives-bool, gives-its}
 use Rattle.typing_expressions.proofs.gives.Statement.{statement}
 use Rattle.typing_expressions.proofs.gives.Tie as tie
@@ -9,10 +10,10 @@ compares-requires : tie.Need-compares-requires
 compares-requires c κs = search needs
 
 returns : tie.Need-returns
-returns c = λ o h. gives-bool (c .before .before .args .kind) _ (sym (c .before .compares .ensures o h) ∙ c .if1 .taken)
+returns c = gives-bool _ ((table (c .before .before .args .operator)) .2) (sym (c .before .compares .ensures) ∙ c .if1 .taken)
 
 returns-2 : tie.Need-returns-2
-returns-2 c = λ o h. gives-its (c .before .before .args .kind) _ (sym (c .before .compares .ensures o h) ∙ c .if1 .left)
+returns-2 c = gives-its _ ((table (c .before .before .args .operator)) .2) (sym (c .before .compares .ensures) ∙ c .if1 .left)
 
 pub gives-spec : {M : Type 1} → statement M
 gives-spec = tie.close (tie.spec compares-requires returns returns-2)

@@ -26,4 +26,13 @@ returns-2 : tie.Need-returns-2
 returns-2 c = λ n h f. placed-operator n h f (c .before .if1 .left)
 
 pub placed-spec : {M : Type 1} → statement M
-placed-spec = tie.close (tie.spec mul-if1 shared-slice-read-if1 add-result mul-result shared-slice-read-result returns returns-2)
+placed-spec =
+    tie.close
+    (tie.spec
+    mul-if1
+    shared-slice-read-if1
+    add-result
+    mul-result
+    shared-slice-read-result
+    returns
+    returns-2)

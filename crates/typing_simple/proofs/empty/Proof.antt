@@ -1,6 +1,6 @@
 -- `typing_simple::empty` meets its contract. Assumes nothing.
-use borrow.Author.Needs.{needs}
 use Rattle.typing_simple.proofs.Walk.{empty-steps}
+use borrow.Author.Needs.{needs}
 use Rattle.typing_simple.proofs.empty.Statement.{statement}
 use Rattle.typing_simple.proofs.empty.Tie as tie
 

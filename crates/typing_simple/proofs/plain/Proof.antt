@@ -1,11 +1,23 @@
 -- `typing_simple::plain` meets its contract. Assumes nothing.
-use borrow.Author.Needs.{needs}
 use Rattle.typing_expressions.proofs.Tables.{listed-one}
-use Rattle.typing_simple.proofs.Outcomes.{handed-no}
 use Rattle.typing_simple.proofs.Shapes.{length-listed}
 use Rattle.typing_simple.proofs.Walk.{declare-within, plain-no, plain-ok}
+use borrow.Author.Needs.{needs}
 use Rattle.typing_simple.proofs.plain.Statement.{statement}
 use Rattle.typing_simple.proofs.plain.Tie as tie
+
+-- Earlier places, from later ones.
+abbrev start-at-declare : tie.After-declare → tie.Start
+start-at-declare c = c .before .before .before .before .before .before .before .before .before .before
+
+abbrev length-or-at-declare : tie.After-declare → tie.After-length-or
+length-or-at-declare c = c .before .before .before .before
+
+abbrev word-at-declare : tie.After-declare → tie.After-word
+word-at-declare c = c .before .before .before
+
+abbrev word2-at-declare : tie.After-declare → tie.After-word2
+word2-at-declare c = c .before .before
 
 shared-slice-read-length-or : tie.Need-shared-slice-read-length-or
 shared-slice-read-length-or c = search needs
@@ -20,32 +32,21 @@ word-requires-2 : tie.Need-word-requires-2
 word-requires-2 c κs = search needs
 
 declare-requires : tie.Need-declare-requires
-declare-requires c κs =
-    let length-or = c .before .before .before .length-or in
-    let start = c .before .before .before .before .before .before .before .before .before in
+declare-requires c κs = let start = c .before .before .before .before .before .before .before .before .before in
     let d = start .pre .1 .is in
-    (start .pre .0 .rows, (rw (c .before .before .word .ensures, c .before .word2 .ensures) (declare-within (d .shape)), rw (length-or .ensures, ← d .shape .lanes) (length-listed (d .shape .block) (d .good) listed-one)))
+    (start .pre .0 .rows, (rw (c .before .before .word .ensures, c .before .word2 .ensures) (declare-within (d .shape)), rw (c .before .before .before .length-or .ensures, ← d .shape .lanes) (length-listed (d .shape .block) (d .good) listed-one)))
 
-enum-told : tie.Need-enum-told
-enum-told c = search needs
-
-enum-told-2 : tie.Need-enum-told-2
-enum-told-2 c = search needs
-
-handed-requires : tie.Need-handed-requires
-handed-requires c κs = search needs
+enum-known-new : tie.Need-enum-known-new
+enum-known-new c = search needs
 
 same-length : tie.Need-same-length
 same-length c = search needs
 
 returns : tie.Need-returns
-returns c =
-    let declare = c .before .before .before .before .before .declare in
-    let word2 = c .before .before .before .before .before .before .before .word2 in
-    let word = c .before .before .before .before .before .before .before .before .word in
-    let length-or = c .before .before .before .before .before .before .before .before .before .length-or in
-    let start = c .before .before .before .before .before .before .before .before .before .before .before .before .before .before .before in
-    λ s d. plain-no (start .pre .0) d (length-or .ensures) (word .ensures) (word2 .ensures) (declare .ensures) (c .before .enum-told2 .given .1) (handed-no (c .before .enum-told2 .given .1) (c .handed .ensures))
+returns c = let start = start-at-declare (c .before .before .before .before .before) in λ s d. plain-no (start .pre .0) d (c .before .before .before .before .before .before .before .before .before .length-or .ensures) (c .before .before .before .before .before .before .before .before .word .ensures) (c .before .before .before .before .before .before .before .word2 .ensures) (c .before .before .before .before .before .declare .ensures) (c .before .new .given .1)
+
+enum-told : tie.Need-enum-told
+enum-told c = search needs
 
 shared-slice-read-put-step : tie.Need-shared-slice-read-put-step
 shared-slice-read-put-step c = search needs
@@ -53,11 +54,11 @@ shared-slice-read-put-step c = search needs
 put-step-requires : tie.Need-put-step-requires
 put-step-requires c κs = search needs
 
-add-t21 : tie.Need-add-t21
-add-t21 c = search needs
-
 add-t22 : tie.Need-add-t22
 add-t22 c = search needs
+
+add-t23 : tie.Need-add-t23
+add-t23 c = search needs
 
 same-length-2 : tie.Need-same-length-2
 same-length-2 c = search needs
@@ -66,14 +67,7 @@ same-length-3 : tie.Need-same-length-3
 same-length-3 c = search needs
 
 returns-2 : tie.Need-returns-2
-returns-2 c =
-    let enum-told = c .before .before .before .before .before .enum-told in
-    let declare = c .before .before .before .before .before .before .before .before .before .declare in
-    let word2 = c .before .before .before .before .before .before .before .before .before .before .before .word2 in
-    let word = c .before .before .before .before .before .before .before .before .before .before .before .before .word in
-    let length-or = c .before .before .before .before .before .before .before .before .before .before .before .before .before .length-or in
-    let start = c .before .before .before .before .before .before .before .before .before .before .before .before .before .before .before .before .before .before .before in
-    λ s d. plain-ok (start .pre .0) d (length-or .ensures) (word .ensures) (word2 .ensures) (declare .ensures) (enum-told .given .1) (c .before .before .put-step .ensures)
+returns-2 c = let start = start-at-declare (c .before .before .before .before .before .before .before .before .before .before) in λ s d. plain-ok (start .pre .0) d (length-or-at-declare (c .before .before .before .before .before .before .before .before .before .before) .length-or .ensures) (word-at-declare (c .before .before .before .before .before .before .before .before .before .before) .word .ensures) (word2-at-declare (c .before .before .before .before .before .before .before .before .before .before) .word2 .ensures) (c .before .before .before .before .before .before .before .before .before .before .declare .ensures) (c .before .before .before .before .before .before .enum-told .given .1) (c .before .before .before .put-step .ensures)
 
 pub plain-spec : {M : Type 1} → statement M
 plain-spec =
@@ -84,15 +78,14 @@ plain-spec =
     word-requires
     word-requires-2
     declare-requires
-    enum-told
-    enum-told-2
-    handed-requires
+    enum-known-new
     same-length
     returns
+    enum-told
     shared-slice-read-put-step
     put-step-requires
-    add-t21
     add-t22
+    add-t23
     same-length-2
     same-length-3
     returns-2)

@@ -1,6 +1,6 @@
 -- `typing_simple::put_head` meets its contract. Assumes nothing.
-use borrow.Author.Needs.{needs}
 use Rattle.typing_simple.proofs.Words.{head-written}
+use borrow.Author.Needs.{needs}
 use Rattle.typing_simple.proofs.put_head.Statement.{statement}
 use Rattle.typing_simple.proofs.put_head.Tie as tie
 
@@ -26,9 +26,9 @@ same-length : tie.Need-same-length
 same-length c = search needs
 
 returns : tie.Need-returns
-returns c = let s = c .before .before .before .before .before .before .before .before .before in
+returns c = let start = c .before .before .before .before .before .before .before .before .before in
     rw (c .before .before .put-unit2 .ensures, c .before .before .before .before .before .before .put-unit .ensures)
-    (head-written (s .args .code .now) (s .args .size) (s .args .tag) (s .args .place) (s .args .a) (s .args .b) (s .args .end) (s .pre .0) (s .pre .1))
+    (head-written (start .args .code .now) (start .args .size) (start .args .tag) (start .args .place) (start .args .a) (start .args .b) (start .args .end) (start .pre .0) (start .pre .1))
 
 pub put-head-spec : {M : Type 1} → statement M
 put-head-spec =

@@ -2,8 +2,8 @@
 use Prim.Native.Nat.{ℕ}
 use mathlib.Core.Path.{_≡_, refl, sym}
 use native.Mathlib.Omega.{arith}
-use borrow.Author.Needs.{needs}
 use Rattle.typing_simple.proofs.Outcomes.{closes-at}
+use borrow.Author.Needs.{needs}
 use Rattle.typing_simple.proofs.scoped.Statement.{statement}
 use Rattle.typing_simple.proofs.scoped.Tie as tie
 
