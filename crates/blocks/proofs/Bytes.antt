@@ -11,7 +11,6 @@ use native.Mathlib.Numerals.{add-one}
 use lib.Seq.{drop-drop, drop-cons, set-split, length-take-le}
 use Rattle.meaning.specs.declared.Kind.{Kind}
 use Rattle.meaning.specs.declared.Kind.the-variants.{Int as int, Bool as bool}
-use Rattle.layout.specs.Table.{kind-of}
 use Rattle.blocks.proofs.Stores.{placed}
 use Rattle.meaning.specs.Memory.{size, truth, bit, lane-of, bytes-of, number-of, little-endian, bool-byte, load, whole}
 
@@ -96,9 +95,3 @@ int-placed l i x e = rw (four i, e)
 pub int-room : (n i b : ℕ) → i < n → b ≡ whole int n → i * size int + size int ≤ b
 unfolding whole size
 int-room n i b h e = omega arith
-
--- The kind of a number that is not 0.
-pub other-kind : (n : ℕ) → (n ≡ 0 → ⊥) → kind-of n ≡ bool
-unfolding kind-of
-other-kind zero h = absurd (h refl)
-other-kind (suc n) h = refl

@@ -7,3 +7,4 @@ pub mod Registers
 pub mod Bytes
 pub mod Masks
 pub mod Stores
+pub mod Operators

@@ -6,6 +6,10 @@ use lib.Dec.{eqb}
 use Rattle.meaning.specs.declared.Kind.{Kind}
 use Rattle.meaning.specs.Memory.{Mask, bit, whole}
 
+-- The words of a register: one for each bit of a mask.
+abbrev pub register-words : ℕ
+register-words = 64
+
 -- The mask of n lanes that a number holds.
 unfoldable pub bits : ℕ → ℕ → Mask
 bits zero m = []
@@ -18,6 +22,6 @@ number (c ∷ m) = number m * 2 + bit c
 
 -- The bytes of a variable of kind k, a mask and a value are of one number of lanes.
 pub record Stores (k : Kind) (bytes mask lanes : ℕ) : Type 0 where
-  pub few : lanes ≤ 64
+  pub few : lanes ≤ register-words
   pub room : bytes ≡ whole k lanes
   pub in-lanes : mask < 2 ^ lanes

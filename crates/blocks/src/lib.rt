@@ -5,13 +5,29 @@ ghost use Prim.Native.Nat.{_+_, _*_, _<_, _≤_, _^_};
 ghost use lib.ListN.{length, take, drop};
 ghost use Rattle.meaning.specs.declared.Kind.the-variants.{Int as int, Bool as bool};
 ghost use Rattle.meaning.specs.Memory.{truth, bit as lane-bit, whole, lane-of, bytes-of, bool-byte, load as loaded, store as stored};
-ghost use Rattle.layout.specs.Table.{kind-of};
+ghost use Rattle.layout.specs.Words.{sign-of, operator-of};
 ghost use Rattle.meaning.specs.Running.{word, less, unary-of, binary-of, lanewise};
-ghost use Rattle.blocks.specs.Operators.{sum-of, order-of, join-of, sign-of, operator-of};
-ghost use Rattle.blocks.specs.Masks.{bits, number, Stores};
-ghost use Rattle.blocks.specs.Widths.{wide as meeting, across, Spreads, Meets};
+ghost use Rattle.blocks.specs.Operators.{sum-of, order-of, join-of};
+ghost use Rattle.blocks.specs.Masks.{register-words, bits, number, Stores};
+ghost use Rattle.blocks.specs.Widths.{int-size, wide as meeting, across, Spreads, Meets};
+use layout::tag;
+use layout::token;
+use meaning::Kind;
 use std::num::wrapping_add_u32;
 use std::num::wrapping_sub_u32;
+
+// The words of a register: one for each bit of a mask; and of two that lie side by side.
+pub const REGISTER: usize = 64;
+
+pub const PAIR: usize = 2 * REGISTER;
+
+// The bytes of an int.
+pub const INT: usize = 4;
+
+// The tags of unary `-` and `~`.
+const MINUS: u32 = tag::UNARY + token::MINUS;
+
+const INVERSE: u32 = tag::UNARY + token::INVERSE;
 
 // The product of two lanes: its low 32 bits.
 fn times(x: u32, y: u32) -> u32
@@ -39,8 +55,8 @@ fn sum(tag: u32, x: u32, y: u32) -> u32
     ensures { λ r. ⌜ r ≡ binary-of int (sum-of tag) x y ⌝ }
 {
     match tag {
-        62 => wrapping_add_u32(x, y),
-        63 => wrapping_sub_u32(x, y),
+        token::PLUS => wrapping_add_u32(x, y),
+        token::MINUS => wrapping_sub_u32(x, y),
         _ => times(x, y),
     }
 }
@@ -50,9 +66,9 @@ fn order(tag: u32, x: u32, y: u32) -> u32
     ensures { λ r. ⌜ r ≡ binary-of int (order-of tag) x y ⌝ }
 {
     match tag {
-        60 => bit(below(x, y)),
-        61 => bit(below(y, x)),
-        50 => bit(!below(y, x)),
+        token::BELOW => bit(below(x, y)),
+        token::ABOVE => bit(below(y, x)),
+        token::AT_MOST => bit(!below(y, x)),
         _ => bit(!below(x, y)),
     }
 }
@@ -62,10 +78,10 @@ fn join(tag: u32, x: u32, y: u32) -> u32
     ensures { λ r. ⌜ r ≡ binary-of int (join-of tag) x y ⌝ }
 {
     match tag {
-        65 => x & y,
-        66 => x | y,
-        67 => x ^ y,
-        48 => bit(x == y),
+        token::AND => x & y,
+        token::OR => x | y,
+        token::XOR => x ^ y,
+        token::EQUAL => bit(x == y),
         _ => bit(x != y),
     }
 }
@@ -75,44 +91,44 @@ fn sign(tag: u32, x: u32) -> u32
     ensures { λ r. ⌜ r ≡ unary-of int (sign-of tag) x ⌝ }
 {
     match tag {
-        191 => wrapping_sub_u32(0, x),
-        196 => !x,
+        MINUS => wrapping_sub_u32(0, x),
+        INVERSE => !x,
         _ => bit(x == 0),
     }
 }
 
 // `+`, `-` or `*` between two registers that lie side by side; the first takes the result.
 fn sums(tag: u32, pair: &mut [u32], width: usize)
-    requires { ⌜ (width ≤ 64) × (length (now pair) ≡ 128) ⌝ }
-    ensures { λ _. ⌜ take width (now (pair .exit)) ≡ zipWith (binary-of int (sum-of tag)) (take width (now (pair .entry))) (take width (drop 64 (now (pair .entry)))) ⌝ }
+    requires { ⌜ (width ≤ register-words) × (length (now pair) ≡ 2 * register-words) ⌝ }
+    ensures { λ _. ⌜ take width (now (pair .exit)) ≡ zipWith (binary-of int (sum-of tag)) (take width (now (pair .entry))) (take width (drop register-words (now (pair .entry)))) ⌝ }
 {
     let mut i = 0;
     while i < width {
-        pair[i] = sum(tag, pair[i], pair[i + 64]);
+        pair[i] = sum(tag, pair[i], pair[i + REGISTER]);
         i += 1;
     }
 }
 
 // The same of `<`, `>`, `<=` and `>=`.
 fn orders(tag: u32, pair: &mut [u32], width: usize)
-    requires { ⌜ (width ≤ 64) × (length (now pair) ≡ 128) ⌝ }
-    ensures { λ _. ⌜ take width (now (pair .exit)) ≡ zipWith (binary-of int (order-of tag)) (take width (now (pair .entry))) (take width (drop 64 (now (pair .entry)))) ⌝ }
+    requires { ⌜ (width ≤ register-words) × (length (now pair) ≡ 2 * register-words) ⌝ }
+    ensures { λ _. ⌜ take width (now (pair .exit)) ≡ zipWith (binary-of int (order-of tag)) (take width (now (pair .entry))) (take width (drop register-words (now (pair .entry)))) ⌝ }
 {
     let mut i = 0;
     while i < width {
-        pair[i] = order(tag, pair[i], pair[i + 64]);
+        pair[i] = order(tag, pair[i], pair[i + REGISTER]);
         i += 1;
     }
 }
 
 // The same of `&`, `|`, `^`, `==` and `!=`.
 fn joins(tag: u32, pair: &mut [u32], width: usize)
-    requires { ⌜ (width ≤ 64) × (length (now pair) ≡ 128) ⌝ }
-    ensures { λ _. ⌜ take width (now (pair .exit)) ≡ zipWith (binary-of int (join-of tag)) (take width (now (pair .entry))) (take width (drop 64 (now (pair .entry)))) ⌝ }
+    requires { ⌜ (width ≤ register-words) × (length (now pair) ≡ 2 * register-words) ⌝ }
+    ensures { λ _. ⌜ take width (now (pair .exit)) ≡ zipWith (binary-of int (join-of tag)) (take width (now (pair .entry))) (take width (drop register-words (now (pair .entry)))) ⌝ }
 {
     let mut i = 0;
     while i < width {
-        pair[i] = join(tag, pair[i], pair[i + 64]);
+        pair[i] = join(tag, pair[i], pair[i + REGISTER]);
         i += 1;
     }
 }
@@ -158,26 +174,35 @@ pub fn spread(register: &mut [u32], n: usize, width: usize)
 
 // The operator of a tag between two registers that lie side by side; the first takes the result.
 fn operate(tag: u32, pair: &mut [u32], width: usize)
-    requires { ⌜ (width ≤ 64) × (length (now pair) ≡ 128) ⌝ }
-    ensures { λ _. ⌜ take width (now (pair .exit)) ≡ zipWith (binary-of int (operator-of tag)) (take width (now (pair .entry))) (take width (drop 64 (now (pair .entry)))) ⌝ }
+    requires { ⌜ (width ≤ register-words) × (length (now pair) ≡ 2 * register-words) ⌝ }
+    ensures { λ _. ⌜ take width (now (pair .exit)) ≡ zipWith (binary-of int (operator-of tag)) (take width (now (pair .entry))) (take width (drop register-words (now (pair .entry)))) ⌝ }
 {
-    if (62 <= tag) & (tag <= 64) {
-        sums(tag, pair, width)
-    } else if (60 <= tag) & (tag <= 61) | (50 <= tag) & (tag <= 51) {
+    if (tag == token::BELOW)
+        | (tag == token::ABOVE)
+        | (tag == token::AT_MOST)
+        | (tag == token::AT_LEAST)
+    {
         orders(tag, pair, width)
-    } else {
+    } else if (tag == token::AND)
+        | (tag == token::OR)
+        | (tag == token::XOR)
+        | (tag == token::EQUAL)
+        | (tag == token::UNEQUAL)
+    {
         joins(tag, pair, width)
+    } else {
+        sums(tag, pair, width)
     }
 }
 
 // The same of values of n and m lanes; how many lanes the result has.
 pub fn binary(tag: u32, pair: &mut [u32], n: usize, m: usize) -> usize
     requires { ⌜ Meets n m (length (now pair)) ⌝ }
-    ensures { λ r. ⌜ (r ≡ meeting n m) × (take r (now (pair .exit)) ≡ lanewise (binary-of int (operator-of tag)) (take n (now (pair .entry))) (take m (drop 64 (now (pair .entry))))) ⌝ }
+    ensures { λ r. ⌜ (r ≡ meeting n m) × (take r (now (pair .exit)) ≡ lanewise (binary-of int (operator-of tag)) (take n (now (pair .entry))) (take m (drop register-words (now (pair .entry))))) ⌝ }
 {
     let width = wide(n, m);
-    spread(&mut pair[..64], n, width);
-    spread(&mut pair[64..], m, width);
+    spread(&mut pair[..REGISTER], n, width);
+    spread(&mut pair[REGISTER..], m, width);
     operate(tag, pair, width);
     width
 }
@@ -191,7 +216,7 @@ fn from_byte(byte: u8) -> u32
 
 // The number that four bytes hold.
 fn int_of(four: &[u8]) -> u32
-    requires { ⌜ length (now four) ≡ 4 ⌝ }
+    requires { ⌜ length (now four) ≡ int-size ⌝ }
     ensures { λ r. ⌜ r ≡ lane-of int (now (four .entry)) ⌝ }
 {
     from_byte(four[0])
@@ -202,7 +227,7 @@ fn int_of(four: &[u8]) -> u32
 
 // Four bytes that hold a number.
 fn put_int(four: &mut [u8], x: u32)
-    requires { ⌜ length (now four) ≡ 4 ⌝ }
+    requires { ⌜ length (now four) ≡ int-size ⌝ }
     ensures { λ _. ⌜ now (four .exit) ≡ bytes-of int x ⌝ }
 {
     four[0] = (x % 256) as u8;
@@ -225,8 +250,8 @@ fn load_ints(lanes: &mut [u32], bytes: &[u8])
 {
     let mut i = 0;
     while i < lanes.len() {
-        let at = i * 4;
-        let end = at + 4;
+        let at = i * INT;
+        let end = at + INT;
         lanes[i] = int_of(&bytes[at..end]);
         i += 1;
     }
@@ -244,15 +269,14 @@ fn load_bools(lanes: &mut [u32], bytes: &[u8])
     }
 }
 
-// The lanes of a variable of the kind of a number (0 int, 1 bool), from its bytes.
-pub fn load(kind: u32, lanes: &mut [u32], bytes: &[u8])
-    requires { ⌜ length (now bytes) ≡ whole (kind-of kind) (length (now lanes)) ⌝ }
-    ensures { λ _. ⌜ now (lanes .exit) ≡ loaded (kind-of kind) (length (now (lanes .entry))) (now (bytes .entry)) ⌝ }
+// The lanes of a variable of a kind, from its bytes.
+pub fn load(kind: Kind, lanes: &mut [u32], bytes: &[u8])
+    requires { ⌜ length (now bytes) ≡ whole kind (length (now lanes)) ⌝ }
+    ensures { λ _. ⌜ now (lanes .exit) ≡ loaded kind (length (now (lanes .entry))) (now (bytes .entry)) ⌝ }
 {
-    if kind == 0 {
-        load_ints(lanes, bytes)
-    } else {
-        load_bools(lanes, bytes)
+    match kind {
+        Kind::Int => load_ints(lanes, bytes),
+        Kind::Bool => load_bools(lanes, bytes),
     }
 }
 
@@ -264,8 +288,8 @@ fn store_ints(bytes: &mut [u8], mask: u64, lanes: &[u32])
     let mut left = mask;
     while left != 0 {
         let i = u64::trailing_zeros(left) as usize;
-        let at = i * 4;
-        let end = at + 4;
+        let at = i * INT;
+        let end = at + INT;
         put_int(&mut bytes[at..end], lanes[i]);
         left = left & (left - 1);
     }
@@ -284,21 +308,20 @@ fn store_bools(bytes: &mut [u8], mask: u64, lanes: &[u32])
     }
 }
 
-// The active lanes go into the bytes of one variable, of the kind of a number.
-pub fn store(kind: u32, bytes: &mut [u8], mask: u64, lanes: &[u32])
-    requires { ⌜ Stores (kind-of kind) (length (now bytes)) mask (length (now lanes)) ⌝ }
-    ensures { λ _. ⌜ now (bytes .exit) ≡ stored (kind-of kind) (bits (length (now (lanes .entry))) mask) (now (lanes .entry)) (now (bytes .entry)) ⌝ }
+// The active lanes go into the bytes of one variable, of a kind.
+pub fn store(kind: Kind, bytes: &mut [u8], mask: u64, lanes: &[u32])
+    requires { ⌜ Stores kind (length (now bytes)) mask (length (now lanes)) ⌝ }
+    ensures { λ _. ⌜ now (bytes .exit) ≡ stored kind (bits (length (now (lanes .entry))) mask) (now (lanes .entry)) (now (bytes .entry)) ⌝ }
 {
-    if kind == 0 {
-        store_ints(bytes, mask, lanes)
-    } else {
-        store_bools(bytes, mask, lanes)
+    match kind {
+        Kind::Int => store_ints(bytes, mask, lanes),
+        Kind::Bool => store_bools(bytes, mask, lanes),
     }
 }
 
 // A mask as lanes.
 pub fn mask_lanes(lanes: &mut [u32], mask: u64)
-    requires { ⌜ length (now lanes) ≤ 64 ⌝ }
+    requires { ⌜ length (now lanes) ≤ register-words ⌝ }
     ensures { λ _. ⌜ now (lanes .exit) ≡ map lane-bit (bits (length (now (lanes .entry))) mask) ⌝ }
 {
     let mut i = 0;
@@ -310,7 +333,7 @@ pub fn mask_lanes(lanes: &mut [u32], mask: u64)
 
 // The mask of the lanes that are true.
 pub fn truths(lanes: &[u32]) -> u64
-    requires { ⌜ length (now lanes) ≤ 64 ⌝ }
+    requires { ⌜ length (now lanes) ≤ register-words ⌝ }
     ensures { λ r. ⌜ r ≡ number (map truth (now (lanes .entry))) ⌝ }
 {
     let mut mask = 0;
@@ -327,11 +350,11 @@ pub fn truths(lanes: &[u32]) -> u64
 
 // A mask of n lanes at a width.
 pub fn mask_across(mask: u64, n: usize, width: usize) -> u64
-    requires { ⌜ Spreads n width 64 ⌝ }
+    requires { ⌜ Spreads n width register-words ⌝ }
     requires { ⌜ mask < 2 ^ n ⌝ }
     ensures { λ r. ⌜ (bits width r ≡ across width (bits n mask)) × (r < 2 ^ width) ⌝ }
 {
-    let all = u64::MAX >> (64 - width);
+    let all = u64::MAX >> (REGISTER - width);
     if n != 1 {
         return mask & all;
     }

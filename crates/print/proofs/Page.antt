@@ -1,13 +1,13 @@
--- A page: its line and its rows, how long it can be, and what of the lent bytes it is. Assumes nothing.
-use Prim.Native.Nat.{ℕ, zero, suc, _+_, _*_, _%_, _^_, _≤_, _<_}
+-- A page: its line and its rows, and how long it can be. Assumes nothing.
+use Prim.Native.Nat.{ℕ, zero, suc, _+_, _*_, _^_, _≤_, _<_}
 use mathlib.Core.Path.{_≡_}
-use mathlib.Core.List.{List, _++_}
+use mathlib.Core.List.{List}
 use native.Mathlib.Omega.{arith}
 use lib.ListN.{length, take, drop, length-append, length-take}
 use lib.Seq.{sets-eq, take-at}
 use Rattle.meaning.specs.Tokens.{bytes}
-use Rattle.meaning.specs.Memory.{Memory, little-endian, number-of}
-use Rattle.meaning.specs.Services.{Answer, answer, sixteen}
+use Rattle.meaning.specs.Memory.{Memory, number-of}
+use Rattle.meaning.specs.Services.{Answer, answer}
 use Rattle.print.specs.Printed.{Printed}
 use Rattle.print.specs.Shown.{held, line, rows, row-count, shown}
 use Rattle.print.proofs.Printing.{printed-both}
@@ -51,12 +51,3 @@ shown-fits c p n s M hc hp hn hs short =
 -- What is printed from the page's start on is its first bytes.
 pub page-start : {a b : List ℕ} {r : ℕ} {u : List ℕ} → Printed a 0 u b r → length u ≤ length a → take r b ≡ u
 page-start {a} {b} {r} {u} p room = rw (p .page-is, sets-eq u a 0 (omega arith)) (take-at u (drop (0 + length u) a) r (omega (arith, p .next-is)))
-
-read-back : (n : ℕ) → number-of (little-endian 4 n) ≡ n % 2 ^ 32
-unfolding number-of little-endian
-read-back n = omega arith
-
--- Four numbers in an answer slice, as they are read back: 32 bits each.
-pub held-words : (c p n s : ℕ) (l : List ℕ) → held (sixteen c p n s ++ l) ≡ answer (c % 2 ^ 32) (p % 2 ^ 32) (n % 2 ^ 32) (s % 2 ^ 32)
-unfolding held sixteen little-endian number-of
-held-words c p n s l = rw (read-back c, read-back p, read-back n, read-back s)

@@ -1,5 +1,5 @@
 -- Document 01, "Checked by hand", the program: an answer and a memory as the bytes that are printed.
-use Prim.Native.Nat.{ℕ, zero, suc, _+_, _/_, _%_}
+use Prim.Native.Nat.{ℕ, zero, suc, _+_, _*_, _-_, _/_, _%_}
 use mathlib.Core.List.{List, [], _∷_, _++_}
 use lib.Dec.{ltb}
 use lib.ListN.{length, take, drop, getD}
@@ -7,10 +7,14 @@ use Rattle.meaning.specs.Codes.{if_then_else_}
 use Rattle.meaning.specs.Tokens.{bytes}
 use Rattle.meaning.specs.Memory.{Memory, number-of}
 use Rattle.meaning.specs.Services.{Answer, answer}
+use Rattle.numbers.specs.Sizes.{number-bytes}
 
 -- The four numbers that an answer slice holds: "32-bit little-endian numbers".
 unfoldable pub held : List ℕ → Answer
-held l = answer (number-of (take 4 l)) (number-of (take 4 (drop 4 l))) (number-of (take 4 (drop 8 l))) (number-of (take 4 (drop 12 l)))
+held l = answer (at 0) (at 1) (at 2) (at 3)
+  where
+    at : ℕ → ℕ
+    at i = number-of (take number-bytes (drop (i * number-bytes) l))
 
 -- The byte of a digit below 16: "lower-case hex".
 unfoldable pub digit : ℕ → ℕ
@@ -37,14 +41,18 @@ unfoldable pub hex : List ℕ → List ℕ
 hex [] = []
 hex (b ∷ l) = digit (b / 16) ∷ digit (b % 16) ∷ hex l
 
+-- The bytes of a row.
+abbrev pub row-size : ℕ
+row-size = 16
+
 -- The first k "rows of 16 bytes (the last row may be shorter)".
 unfoldable pub rows : ℕ → Memory → List ℕ
 rows zero M = []
-rows (suc k) M = hex (take 16 M) ++ bytes "\n" ++ rows k (drop 16 M)
+rows (suc k) M = hex (take row-size M) ++ bytes "\n" ++ rows k (drop row-size M)
 
 -- How many rows a memory has.
 unfoldable pub row-count : Memory → ℕ
-row-count M = (length M + 15) / 16
+row-count M = (length M + (row-size - 1)) / row-size
 
 -- "prints code, place, need, steps on one line, then the memory"
 unfoldable pub shown : Answer × Memory → List ℕ

@@ -5,8 +5,21 @@ ghost use Prim.Native.Nat.{_+_, _≤_, _<_, min};
 ghost use lib.ListN.{length};
 ghost use Rattle.meaning.specs.Memory.{number-of};
 ghost use Rattle.meaning.specs.Services.{answer};
-ghost use Rattle.print.specs.Shown.{held, digit, decimal, line, hex, rows, row-count, shown};
+ghost use Rattle.numbers.specs.Sizes.{number-bytes, four-bytes};
+ghost use Rattle.print.specs.Shown.{row-size, held, digit, decimal, line, hex, rows, row-count, shown};
 ghost use Rattle.print.specs.Printed.{Printed};
+use numbers::FOUR;
+use numbers::NUMBER;
+
+// Where the second, third and fourth number of an answer slice begin.
+const PLACE: usize = NUMBER;
+
+const NEED: usize = 2 * NUMBER;
+
+const STEPS: usize = 3 * NUMBER;
+
+// The bytes of a row.
+const ROW: usize = 16;
 
 // The digits of decimal and of lower-case hex.
 const DIGITS: [u8; 16] = [
@@ -31,13 +44,13 @@ const DIGITS: [u8; 16] = [
 // The four numbers of an answer slice on one line, then a memory in rows, at the start of the page; answers how many bytes
 // that is.
 pub fn put_shown(page: &mut [u8], answer: &[u8], memory: &[u8]) -> usize
-    requires { ⌜ (16 ≤ length (now answer)) × (length (shown (held (now answer), now memory)) ≤ length (now page)) ⌝ }
+    requires { ⌜ (four-bytes ≤ length (now answer)) × (length (shown (held (now answer), now memory)) ≤ length (now page)) ⌝ }
     ensures { λ r. ⌜ Printed (now (page .entry)) 0 (shown (held (now (answer .entry)), now (memory .entry))) (now (page .exit)) r ⌝ }
 {
-    let code = number_in(&answer[..4]);
-    let place = number_in(&answer[4..8]);
-    let need = number_in(&answer[8..12]);
-    let steps = number_in(&answer[12..16]);
+    let code = number_in(&answer[..PLACE]);
+    let place = number_in(&answer[PLACE..NEED]);
+    let need = number_in(&answer[NEED..STEPS]);
+    let steps = number_in(&answer[STEPS..FOUR]);
     let at = put_line(page, 0, code, place, need, steps);
     put_rows(page, at, memory)
 }
@@ -51,7 +64,7 @@ fn wide(byte: u8) -> u32
 
 // The number that four bytes hold, the lowest first.
 fn number_in(four: &[u8]) -> u32
-    requires { ⌜ length (now four) ≡ 4 ⌝ }
+    requires { ⌜ length (now four) ≡ number-bytes ⌝ }
     ensures { λ r. ⌜ r ≡ number-of (now (four .entry)) ⌝ }
 {
     wide(four[0]) + wide(four[1]) * 256 + wide(four[2]) * 65536 + wide(four[3]) * 16777216
@@ -75,7 +88,7 @@ fn put(page: &mut [u8], at: usize, byte: u8) -> usize
 }
 
 // A number in decimal: the digits of its tenth, then its last.
-fn put_number(page: &mut [u8], at: usize, number: u32) -> usize
+fn put_decimal(page: &mut [u8], at: usize, number: u32) -> usize
     requires { ⌜ at + length (decimal number) ≤ length (now page) ⌝ }
     ensures { λ r. ⌜ Printed (now (page .entry)) at (decimal number) (now (page .exit)) r ⌝ }
 {
@@ -83,7 +96,7 @@ fn put_number(page: &mut [u8], at: usize, number: u32) -> usize
         let only = digit_of(number as u8);
         return put(page, at, only);
     }
-    let next = put_number(page, at, number / 10);
+    let next = put_decimal(page, at, number / 10);
     let last = digit_of((number % 10) as u8);
     put(page, next, last)
 }
@@ -93,7 +106,7 @@ fn put_ended(page: &mut [u8], at: usize, number: u32, end: u8) -> usize
     requires { ⌜ at + length (decimal number) < length (now page) ⌝ }
     ensures { λ r. ⌜ Printed (now (page .entry)) at (decimal number ++ (end ∷ [])) (now (page .exit)) r ⌝ }
 {
-    let next = put_number(page, at, number);
+    let next = put_decimal(page, at, number);
     put(page, next, end)
 }
 
@@ -128,12 +141,12 @@ fn put_hex(page: &mut [u8], at: usize, bytes: &[u8]) -> usize
 // Where the row that starts at `from` ends.
 fn row_end(from: usize, length: usize) -> usize
     requires { ⌜ from < length ⌝ }
-    ensures { λ r. ⌜ r ≡ min (from + 16) length ⌝ }
+    ensures { λ r. ⌜ r ≡ min (from + row-size) length ⌝ }
 {
-    if length - from < 16 {
+    if length - from < ROW {
         length
     } else {
-        from + 16
+        from + ROW
     }
 }
 
@@ -142,11 +155,11 @@ fn put_rows(page: &mut [u8], at: usize, memory: &[u8]) -> usize
     requires { ⌜ at + length (rows (row-count (now memory)) (now memory)) ≤ length (now page) ⌝ }
     ensures { λ r. ⌜ Printed (now (page .entry)) at (rows (row-count (now (memory .entry))) (now (memory .entry))) (now (page .exit)) r ⌝ }
 {
-    let count = (memory.len() + 15) / 16;
+    let count = (memory.len() + (ROW - 1)) / ROW;
     let mut next = at;
     let mut i = 0;
     while i < count {
-        let from = i * 16;
+        let from = i * ROW;
         let end = row_end(from, memory.len());
         let ended = put_hex(page, next, &memory[from..end]);
         next = put(page, ended, b'\n');

@@ -8,21 +8,22 @@ use mathlib.Core.Logic.{⊎-elim}
 use lib.ListN.{length, drop, length-append, length-drop}
 use lib.Seq.{sets, sets-eq, drop-drop, drop-at, take-at}
 use borrow.Author.Tests.{le-leb, lt-leb}
+use Rattle.meaning.specs.declared.Kind.{Kind}
 use Rattle.meaning.specs.Memory.{Declared, Declarations, little-endian}
 use Rattle.meaning.specs.Tree.{kind-number}
-use Rattle.meaning.specs.Services.{sixteen, listed}
-use Rattle.layout.specs.Table.{word-of, kind-of, entry, entries}
+use Rattle.meaning.specs.Services.{in-a-row, listed}
+use Rattle.layout.specs.Table.{word-of, place-column, kind-column, lanes-column, address-column, kind-of, entry, entries}
 
 -- The record of a declaration, and those of several.
 abbrev pub record-of : Declared → List ℕ
-record-of d = sixteen (d .place) (kind-number (d .kind)) (d .lanes) (d .address)
+record-of d = in-a-row (d .place ∷ kind-number (d .kind) ∷ d .lanes ∷ d .address ∷ [])
 
 unfoldable pub written : Declarations → List ℕ
 written [] = []
 written (d ∷ Γ) = record-of d ++ written Γ
 
 length-record : (d : Declared) → length (record-of d) ≡ 16
-unfolding sixteen little-endian
+unfolding in-a-row little-endian
 length-record d = refl
 
 length-written : (Γ : Declarations) → length (written Γ) ≡ 16 * length Γ
@@ -86,15 +87,16 @@ module _ (table l₀ l : List ℕ) (i : ℕ) (so-far : Listing table l₀ i l) w
   pub listing-length : length l ≡ length l₀
   listing-length = rw (so-far .is) (simp (length-append, length-drop) (omega (arith, front, so-far .fits)))
 
-  -- One more record.
-  pub listing-more : (l′ : List ℕ) (kind : ℕ) → i * 16 + 16 ≤ length l → kind ≡ kind-number (kind-of (word-of table i 2))
-      → l′ ≡ sets l (i * 16) (sixteen (word-of table i 0) kind (word-of table i 3) (word-of table i 4)) → Listing table l₀ (suc i) l′
+  -- One more record, by the words of its row.
+  pub listing-more : (l′ : List ℕ) (place kind lanes address : ℕ) (k : Kind) → i * 16 + 16 ≤ length l
+      → place ≡ word-of table i place-column → k ≡ kind-of (word-of table i kind-column) → kind ≡ kind-number k → lanes ≡ word-of table i lanes-column → address ≡ word-of table i address-column
+      → l′ ≡ sets l (i * 16) (in-a-row (place ∷ kind ∷ lanes ∷ address ∷ [])) → Listing table l₀ (suc i) l′
   unfolding entries entry written
-  listing-more l′ kind room k e =
+  listing-more l′ place kind lanes address k room p is n w a e =
       let d = entry [] table i in
-      let n : suc i * 16 ≡ i * 16 + 16 = omega arith in
+      let next : suc i * 16 ≡ i * 16 + 16 = omega arith in
       record {
-        is = rw (e, k, sets-eq (record-of d) l (i * 16) (omega (arith, length-record d)), length-record d, so-far .is, n, written-append, append-nil)
+        is = rw (e, n, is, p, w, a, sets-eq (record-of d) l (i * 16) (omega (arith, length-record d)), length-record d, so-far .is, next, written-append, append-nil)
             (rw (
               take-at (written (entries [] table i)) (drop (i * 16) l₀) (i * 16) front,
               ← drop-drop 16 (i * 16) l₀,
@@ -119,9 +121,3 @@ module _ (table l₀ l : List ℕ) (i : ℕ) (so-far : Listing table l₀ i l) w
       let s = split table i n h in
       let short : length (drop (i * 16) l₀) < 16 = simp length-drop (omega (arith, full, listing-length)) in
       so-far .is ∙ sym (rw (s .is) (behind (s .rest) ∙ rw (listed-short (s .rest) (drop (i * 16) l₀) short)))
-
--- Any number but 0 is a bool's.
-pub not-int : (w : ℕ) → (w ≡ 0 → ⊥) → 1 ≡ kind-number (kind-of w)
-unfolding kind-number kind-of
-not-int zero h = absurd (h refl)
-not-int (suc w) h = refl

@@ -7,7 +7,7 @@ use native.Mathlib.Omega.{arith}
 use lib.ListN.{length, length-map}
 use Rattle.meaning.specs.declared.Kind.the-variants.{Int as int}
 use Rattle.meaning.specs.Running.{unary-of}
-use Rattle.blocks.specs.Operators.{sign-of}
+use Rattle.layout.specs.Words.{sign-of}
 use Rattle.blocks.proofs.Lists.{map-at}
 use Rattle.blocks.proofs.Filling.{Filling, start, more, whole, unwritten}
 use Rattle.blocks.proofs.signs.Statement.{statement}

@@ -2,7 +2,10 @@
 use borrow.Author.Tests.{ne-eqb}
 use borrow.Author.Needs.{needs}
 use Rattle.meaning.specs.Running.{word-binary, binary-of, word}
-use Rattle.blocks.specs.Operators.{sum-of}
+use Rattle.meaning.specs.Tokens.{the, words, marks, numbered, reserved, signs}
+use Rattle.meaning.specs.Tree.{table}
+use Rattle.layout.specs.Words.{binary-tag}
+use Rattle.blocks.specs.Operators.{one-or}
 use Rattle.blocks.proofs.Words.{difference}
 use Rattle.blocks.proofs.sum.Statement.{statement}
 use Rattle.blocks.proofs.sum.Tie as tie
@@ -17,15 +20,15 @@ times-requires : tie.Need-times-requires
 times-requires c κs = search needs
 
 returns : tie.Need-returns
-unfolding sum-of binary-of word-binary word
+unfolding one-or binary-tag table the words marks numbered reserved signs binary-of word-binary word
 returns c = rw (c .before .match .keys1) (c .wrapping-add-u32 .ensures)
 
 returns-2 : tie.Need-returns-2
-unfolding sum-of binary-of word-binary word
+unfolding one-or binary-tag table the words marks numbered reserved signs binary-of word-binary word
 returns-2 c = rw (c .before .match .keys2) (difference _ _ _ (search needs) (search needs) (c .wrapping-sub-u32 .ensures))
 
 returns-3 : tie.Need-returns-3
-unfolding sum-of binary-of word-binary
+unfolding one-or binary-tag table the words marks numbered reserved signs binary-of word-binary
 returns-3 c = rw (ne-eqb _ 62 (c .before .match .rest .0 .1), ne-eqb _ 63 (c .before .match .rest .1)) (c .times .ensures)
 
 pub sum-spec : {M : Type 1} → statement M

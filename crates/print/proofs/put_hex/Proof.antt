@@ -39,7 +39,10 @@ put-requires : tie.Need-put-requires Inv-loop μ-loop
 put-requires c κs = omega (arith, hex-room _ (c .before .before .before .before .before .before .loop .inv .0) (c .before .before .before .before .before .before .before .before .before .pre) (c .before .before .before .before .before .loop-test .taken))
 
 put-requires-2 : tie.Need-put-requires-2 Inv-loop μ-loop
-put-requires-2 c κs = omega (arith, hex-room _ (c .before .before .before .before .before .before .before .before .before .before .loop .inv .0) (c .before .before .before .before .before .before .before .before .before .before .before .before .before .pre) (c .before .before .before .before .before .before .before .before .before .loop-test .taken), c .before .before .before .put .ensures .next-is, printed-length (c .before .before .before .put .ensures))
+put-requires-2 c κs =
+    let first = c .before .before .before in
+    let loop = first .before .before .before .before .before .before .before in
+    omega (arith, hex-room _ (loop .loop .inv .0) (loop .before .before .before .pre) (c .before .before .before .before .before .before .before .before .before .loop-test .taken), first .put .ensures .next-is, printed-length (first .put .ensures))
 
 add-i : tie.Need-add-i Inv-loop μ-loop
 add-i c = search needs
@@ -48,7 +51,12 @@ loop-less : tie.Need-loop-less Inv-loop μ-loop
 loop-less c = search needs
 
 loop-again : tie.Need-loop-again Inv-loop μ-loop
-loop-again c = (rw (add-one, hex-more _ _ (c .before .before .before .before .before .before .before .before .before .before .before .before .loop-test .taken), ← c .before .before .before .before .before .before .before .before .before .before .digit-of .ensures, ← c .before .before .before .before .before .before .before .before .digit-of2 .ensures) (printed-both (printed-both (c .before .before .before .before .before .before .before .before .before .before .before .before .before .loop .inv .0) (c .before .before .before .before .before .before .put .ensures)) (c .before .before .put2 .ensures)), omega (arith, c .before .before .before .before .before .before .before .before .before .before .before .before .loop-test .taken))
+loop-again c =
+    let put = c .before .before .before .before .before .before in
+    let low = put .before .before in
+    let high = low .before .before in
+    let turn = high .before .before in
+    (rw (add-one, hex-more _ _ (turn .loop-test .taken), ← high .digit-of .ensures, ← low .digit-of2 .ensures) (printed-both (printed-both (turn .before .loop .inv .0) (put .put .ensures)) (c .before .before .put2 .ensures)), omega (arith, turn .loop-test .taken))
 
 same-length : tie.Need-same-length Inv-loop μ-loop
 same-length c = printed-length (c .before .loop .inv .0)

@@ -17,6 +17,9 @@ Inv-loop page₀ at memory count next₀ i₀ page next i = Printed page₀ at (
 abbrev μ-loop : tie.MeasureT-loop
 μ-loop page₀ at memory count next₀ i₀ page next i = count - i
 
+sub-count : tie.Need-sub-count Inv-loop μ-loop
+sub-count c = search needs
+
 add-count : tie.Need-add-count Inv-loop μ-loop
 add-count c = search needs
 
@@ -71,6 +74,7 @@ put-rows-spec =
     (tie.spec
     Inv-loop
     μ-loop
+    sub-count
     add-count
     loop-holds
     mul-from

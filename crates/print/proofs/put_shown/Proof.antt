@@ -52,19 +52,23 @@ part-number-in-end-3 c = search needs
 number-in-requires-4 : tie.Need-number-in-requires-4
 number-in-requires-4 c κs = search needs
 
--- The four numbers that were read are the answer that the slice holds.
+-- The entry, from where the four numbers are read; and they are the answer that the slice holds.
+abbrev start-of : tie.After-number-in4 → tie.Start
+start-of c = c .before .before .before .before .before .before .before .before .before .before .before
+
 whole : (c : tie.After-number-in4) → answer (c .before .before .before .before .before .before .number-in .result) (c .before .before .before .before .number-in2 .result) (c .before .before .number-in3 .result) (c .number-in4 .result) ≡ held (c .before .before .before .before .before .before .before .before .before .before .before .args .answer .now)
 whole c = held-is (record { code = c .before .before .before .before .before .before .number-in .ensures; place = c .before .before .before .before .number-in2 .ensures; need = c .before .before .number-in3 .ensures; steps = c .number-in4 .ensures })
 
 put-line-requires : tie.Need-put-line-requires
 put-line-requires c κs =
-    let start = c .before .before .before .before .before .before .before .before .before .before .before .before in
+    let start = start-of (c .before) in
     rw (whole (c .before)) (omega (arith, start .pre .1, shown-length (held (start .args .answer .now)) (start .args .memory .now)))
 
 put-rows-requires : tie.Need-put-rows-requires
 put-rows-requires c κs =
-    let start = c .before .before .before .before .before .before .before .before .before .before .before .before .before .before .before .before in
-    let p = rw (whole (c .before .before .before .before .before)) at (c .before .before .before .put-line .ensures) in
+    let read = c .before .before .before .before .before in
+    let start = start-of read in
+    let p = rw (whole read) at (c .before .before .before .put-line .ensures) in
     omega (arith, start .pre .1, shown-length (held (start .args .answer .now)) (start .args .memory .now), p .next-is, printed-length p)
 
 same-length : tie.Need-same-length
@@ -72,8 +76,10 @@ same-length c = search needs
 
 returns : tie.Need-returns
 returns c =
-    let start = c .before .before .before .before .before .before .before .before .before .before .before .before .before .before .before .before .before .before .before in
-    shown-both (held (start .args .answer .now)) (start .args .memory .now) (rw (whole (c .before .before .before .before .before .before .before .before)) at (c .before .before .before .before .before .before .put-line .ensures)) (c .before .before .put-rows .ensures)
+    let line = c .before .before .before .before .before .before in
+    let read = line .before .before in
+    let start = start-of read in
+    shown-both (held (start .args .answer .now)) (start .args .memory .now) (rw (whole read) at (line .put-line .ensures)) (c .before .before .put-rows .ensures)
 
 pub put-shown-spec : {M : Type 1} → statement M
 put-shown-spec =

@@ -1,9 +1,10 @@
-use borrow.Author.Needs.{needs}
 -- `variables::list` meets its contract. The loop's invariant: the first i records are written. Assumes nothing.
 use Prim.Native.Nat.{_+_, _*_, _-_, _≤_}
 use mathlib.Core.Path.{_≡_}
 use native.Mathlib.Omega.{arith}
 use native.Mathlib.Numerals.{add-one}
+use borrow.Author.Needs.{needs}
+use Rattle.layout.specs.Table.{row-words, place-column}
 use Rattle.variables.proofs.Laws.{Listing, listing-start, listing-more, listing-length, all-listed, full-listed}
 use Rattle.variables.proofs.list.Statement.{statement}
 use Rattle.variables.proofs.list.Tie as tie
@@ -29,47 +30,28 @@ same-length c = listing-length _ _ _ _ (c .before .before .loop .inv .0)
 returns : tie.Need-returns Inv-loop μ-loop
 returns c = full-listed _ _ _ _ (c .before .before .loop .inv .0) _ (c .before .before .loop .inv .1) (c .if1 .taken)
 
-mul-row : tie.Need-mul-row Inv-loop μ-loop
-mul-row c = search needs
+place-requires : tie.Need-place-requires Inv-loop μ-loop
+place-requires c κs = search needs
 
-add-kind-number : tie.Need-add-kind-number Inv-loop μ-loop
-add-kind-number c = search needs
+cast-place : tie.Need-cast-place Inv-loop μ-loop
+cast-place c =
+    let loop = c .before .before .before in
+    omega (arith, c .place .ensures, loop .before .before .shared-slice-known .given (loop .loop .i * row-words + place-column))
 
-mul-kind-number : tie.Need-mul-kind-number Inv-loop μ-loop
-mul-kind-number c = search needs
-
-shared-slice-read-kind-number : tie.Need-shared-slice-read-kind-number Inv-loop μ-loop
-shared-slice-read-kind-number c = search needs
+kind-requires : tie.Need-kind-requires Inv-loop μ-loop
+kind-requires c κs = search needs
 
 kind-number-requires : tie.Need-kind-number-requires Inv-loop μ-loop
 kind-number-requires c κs = search needs
 
-mul-put-record : tie.Need-mul-put-record Inv-loop μ-loop
-mul-put-record c = search needs
+lanes-requires : tie.Need-lanes-requires Inv-loop μ-loop
+lanes-requires c κs = search needs
 
-shared-slice-read-put-record : tie.Need-shared-slice-read-put-record Inv-loop μ-loop
-shared-slice-read-put-record c = search needs
+address-requires : tie.Need-address-requires Inv-loop μ-loop
+address-requires c κs = search needs
 
-add-put-record : tie.Need-add-put-record Inv-loop μ-loop
-add-put-record c = search needs
-
-mul-put-record-2 : tie.Need-mul-put-record-2 Inv-loop μ-loop
-mul-put-record-2 c = search needs
-
-shared-slice-read-put-record-2 : tie.Need-shared-slice-read-put-record-2 Inv-loop μ-loop
-shared-slice-read-put-record-2 c = search needs
-
-add-put-record-2 : tie.Need-add-put-record-2 Inv-loop μ-loop
-add-put-record-2 c = search needs
-
-mul-put-record-3 : tie.Need-mul-put-record-3 Inv-loop μ-loop
-mul-put-record-3 c = search needs
-
-shared-slice-read-put-record-3 : tie.Need-shared-slice-read-put-record-3 Inv-loop μ-loop
-shared-slice-read-put-record-3 c = search needs
-
-put-record-requires : tie.Need-put-record-requires Inv-loop μ-loop
-put-record-requires c κs = search needs
+put-four-requires : tie.Need-put-four-requires Inv-loop μ-loop
+put-four-requires c κs = search needs
 
 add-i : tie.Need-add-i Inv-loop μ-loop
 add-i c = search needs
@@ -78,13 +60,21 @@ loop-less : tie.Need-loop-less Inv-loop μ-loop
 loop-less c = search needs
 
 loop-again : tie.Need-loop-again Inv-loop μ-loop
-loop-again c = let i = c .before .before .before .before .before .before .before .before .before .before .before .loop .i in let s = c .before .before .before .before .before .before .before .before .before .before .before .before .before .before .args in let z : i * 6 + 0 ≡ i * 6 = omega arith in (rw add-one (listing-more (s .table .now) (s .records .now) _ i (c .before .before .before .before .before .before .before .before .before .before .before .loop .inv .0) _ _ (c .before .before .before .before .before .before .before .before .before .if1 .left) (c .before .before .before .before .before .before .before .kind-number .ensures) (rw z (c .before .before .put-record .ensures))), omega (arith, c .before .before .before .before .before .before .before .before .before .before .loop-test .taken))
+loop-again c =
+    let put = c .before .before in
+    let address = put .before .before in
+    let number = address .before .before in
+    let place = number .before .before in
+    let loop = place .before .before .before in
+    let s = loop .before .before .before .args in
+    let more = listing-more (s .table .now) (s .records .now) _ (loop .loop .i) (loop .loop .inv .0) _ _ _ _ _ _ (place .before .if1 .left) (place .place .ensures) (number .before .kind .ensures) (number .kind-number .ensures) (address .before .lanes .ensures) (address .address .ensures) (put .put-four .ensures) in
+    (rw add-one more, omega (arith, place .before .before .loop-test .taken))
 
 same-length-2 : tie.Need-same-length-2 Inv-loop μ-loop
 same-length-2 c = listing-length _ _ _ _ (c .before .loop .inv .0)
 
 returns-2 : tie.Need-returns-2 Inv-loop μ-loop
-returns-2 c = let i = c .before .loop .i in let s = c .before .before .before .before .args in let e : s .count ≡ i = omega (arith, c .before .loop .inv .1, c .loop-test .left) in rw e (all-listed _ _ _ _ (c .before .loop .inv .0))
+returns-2 c = let i = c .before .loop .i in let e : c .before .before .before .before .args .count ≡ i = omega (arith, c .before .loop .inv .1, c .loop-test .left) in rw e (all-listed _ _ _ _ (c .before .loop .inv .0))
 
 pub list-spec : {M : Type 1} → statement M
 list-spec =
@@ -97,20 +87,13 @@ list-spec =
     add-if1
     same-length
     returns
-    mul-row
-    add-kind-number
-    mul-kind-number
-    shared-slice-read-kind-number
+    place-requires
+    cast-place
+    kind-requires
     kind-number-requires
-    mul-put-record
-    shared-slice-read-put-record
-    add-put-record
-    mul-put-record-2
-    shared-slice-read-put-record-2
-    add-put-record-2
-    mul-put-record-3
-    shared-slice-read-put-record-3
-    put-record-requires
+    lanes-requires
+    address-requires
+    put-four-requires
     add-i
     loop-less
     loop-again

@@ -1,12 +1,12 @@
--- `numbers::put_word` meets its contract. Assumes nothing.
+-- `numbers::put_number` meets its contract. Assumes nothing.
 use Prim.Native.Nat.{suc, _+_}
 use mathlib.Core.Path.{_≡_}
 use native.Mathlib.Omega.{arith}
 use lib.ListN.{length-set}
 use Rattle.meaning.specs.Memory.{little-endian}
 use borrow.Author.Needs.{needs}
-use Rattle.numbers.proofs.put_word.Statement.{statement}
-use Rattle.numbers.proofs.put_word.Tie as tie
+use Rattle.numbers.proofs.put_number.Statement.{statement}
+use Rattle.numbers.proofs.put_number.Tie as tie
 
 cast-bytes : tie.Need-cast-bytes
 cast-bytes c = search needs
@@ -48,8 +48,8 @@ returns : tie.Need-returns
 unfolding little-endian
 returns c = let at = c .args .at in let one : at + 1 ≡ suc at = omega arith in let two : at + 2 ≡ suc (suc at) = omega arith in let three : at + 3 ≡ suc (suc (suc at)) = omega arith in rw (one, two, three)
 
-pub put-word-spec : {M : Type 1} → statement M
-put-word-spec =
+pub put-number-spec : {M : Type 1} → statement M
+put-number-spec =
     tie.close
     (tie.spec
     cast-bytes
