@@ -1,69 +1,75 @@
--- What the verdict of a text makes of the judge's answer, of the listing's and of the run's.
-use Prim.Native.Nat.{ℕ, _*_, _≤_, _<_, min}
-use mathlib.Core.Path.{_≡_, refl}
-use mathlib.Core.List.{List, []}
+-- What the verdict of a text makes of the judge's answer.
+use Prim.Native.Nat.{ℕ, _≤_, _<_}
+use mathlib.Core.Path.{_≡_, refl, sym, _∙_}
+use mathlib.Core.List.{List, [], _∷_}
 use native.Mathlib.Omega.{arith}
 use lib.ListN.{length}
 use Rattle.meaning.specs.declared.Refusal.{Refusal}
-use Rattle.meaning.specs.Codes.{code, ok, refused, text-limit}
-use Rattle.meaning.specs.Services.{answer, judged, verdict, judge, judge-call, executed, run}
+use Rattle.meaning.specs.Codes.{ok, refused}
+use Rattle.meaning.specs.Memory.{need}
+use Rattle.meaning.specs.Services.{answer, numbers, with-numbers, judged, verdict, judge, judge-call, Kept}
+use Rattle.layout.specs.declared.Stage.{Stage}
+use Rattle.layout.specs.declared.Stage.the-variants.{Done, Refused}
+use Rattle.layout.specs.Sizes.{table-room}
 use Rattle.layout.specs.Table.{entries}
-use Rattle.answers.proofs.Places.{run-place-low}
-use Rattle.typing.specs.declared.Judged.{Judged}
-use Rattle.typing.specs.declared.Judged.the-variants.{Accepted, Refused}
-use Rattle.typing.specs.Answers.{judged-out, Accepts}
-use Rattle.judge.specs.Contract.{Gives}
-use Rattle.promises.specs.Promise.{Kept, with-answer, holding}
-use Rattle.ruihmento.specs.Room.{Buffers}
+use Rattle.laws.specs.Sound.{stack-limit}
+use Rattle.laws.proofs.Accepted.{refused-low}
+use Rattle.numbers.specs.Sizes.{four-bytes}
+use Rattle.typing.specs.Answers.{program-out, Accepts}
+use Rattle.judge.specs.Contract.{Judging-room, Judges-text}
+use Rattle.ruihmento.specs.Contract.{Service-room, with-refusal, Tellable}
 use Rattle.ruihmento.proofs.Slices.{not-called, kept}
 
 -- A slice without room.
-pub judge-not-called : (text slice : List ℕ) → length slice < 16 → Kept (judge-call text slice) 0 slice tt
+pub judge-not-called : (text slice : List ℕ) → length slice < four-bytes → Kept (judge-call text slice) 0 slice tt
 unfolding judge-call
-judge-not-called text slice h = not-called slice tt _ h
+judge-not-called text slice h = not-called slice tt (judge text) tt h
 
 -- A slice with room.
-pub judge-called : (text slice : List ℕ) {written : List ℕ} → 16 ≤ length slice → written ≡ holding (judge text) slice → Kept (judge-call text slice) 1 written tt
+pub judge-called : (text slice : List ℕ) {written : List ℕ} → four-bytes ≤ length slice → written ≡ with-numbers (numbers (judge text)) slice → Kept (judge-call text slice) 1 written tt
 unfolding judge-call
-judge-called text slice h w = kept slice tt _ h (record { written-is = w; after-is = refl })
+judge-called text slice h w = kept slice tt (judge text, tt) h (record { written-is = w; after-is = refl })
 
 -- An answer that is known.
-pub known : {text table words : List ℕ} {r q : Judged} → Gives text table words r → r ≡ q → Gives text table words q
+pub known : {text table words : List ℕ} {r q : Stage} → Judges-text text table words r → r ≡ q → Judges-text text table words q
 known g e = rw e at g
 
--- Buffers of n words each, for texts of which that is enough.
-pub buffers : {text tree code slice : List ℕ} (n : ℕ) → 3 * min (length text) 4096 ≤ n → n ≤ 12288 → length tree ≡ n → length code ≡ n → 16 ≤ length slice → Buffers text tree code slice
-unfolding text-limit
-buffers n room few t c h = record { tree-room = omega arith; few = omega arith; code-room = omega arith; answer-room = h }
+-- With a table and a stack of their greatest sizes the text can be judged.
+pub judging-room : {text tree code slice table stack : List ℕ} → Service-room text tree code slice → length table ≡ table-room → length stack ≡ 464 → Judging-room text tree table code stack
+unfolding stack-limit
+judging-room g t s = record {
+  tokens-room = g .tokens-room;
+  tree-fits = g .tree-fits;
+  few = g .few;
+  code-room = g .code-room;
+  rows-room = omega arith;
+  stack-room = omega arith;
+}
 
 module _ {text table words : List ℕ} where
   -- A text that is refused.
-  module _ {c : Refusal} {p : ℕ} (g : Gives text table words (Refused c p)) where
+  module _ {c : Refusal} {p : ℕ} (g : Judges-text text table words (Refused c p)) where
     pub is-refused : judged text ≡ refused c p
-    unfolding judged-out
+    unfolding program-out
     is-refused = g .is
 
-    -- Its place is one of the longest text's.
-    pub near : p ≤ 4096
-    unfolding run executed answer text-limit
-    near =
-        let e : (run text [] 0) .0 .place ≡ p = rw is-refused in
-        let h : (run text [] 0) .0 .place ≤ 4096 = run-place-low text [] 0 in
-        rw e at h
+  pub judge-refused : {r : Stage} {c : Refusal} {p : ℕ} → Judges-text text table words r → r ≡ Refused c p → (slice : List ℕ) {written : List ℕ} → written ≡ with-refusal r slice → written ≡ with-numbers (numbers (judge text)) slice
+  unfolding judge verdict answer numbers with-refusal
+  judge-refused g e slice w = rw (is-refused (known g e)) (rw e at w)
 
-    pub judge-refused : (slice : List ℕ) {written : List ℕ} → written ≡ with-answer (code c) p 0 0 slice → written ≡ holding (judge text) slice
-    unfolding judge verdict answer
-    judge-refused slice w = rw is-refused w
+  -- A refusal can be told: its place is one of the longest text's.
+  pub tellable : {r : Stage} → Judges-text text table words r → (slice : List ℕ) → four-bytes ≤ length slice → Tellable r slice
+  tellable g slice h = record { room = h; low = λ c p e. refused-low text (is-refused (known g e)) }
 
   -- A text that is accepted.
-  module _ {n m z : ℕ} (g : Gives text table words (Accepted n m z)) where
-    pub accepts : Accepts text table words n m z (g .program)
-    accepts = g .accepted n m z refl
+  module _ {n z : ℕ} (g : Judges-text text table words (Done n z)) where
+    pub accepts : Accepts text table words n z (g .program)
+    accepts = g .accepted n z refl
 
     pub is-accepted : judged text ≡ ok (g .program) (entries text table n)
-    unfolding judged-out
+    unfolding program-out
     is-accepted = g .is
 
-    pub judge-accepted : (slice : List ℕ) {written : List ℕ} → written ≡ with-answer 0 0 m 0 slice → written ≡ holding (judge text) slice
-    unfolding judge verdict answer
-    judge-accepted slice w = rw (is-accepted, ← accepts .needs) w
+    pub judge-accepted : (slice : List ℕ) {written : List ℕ} {m : ℕ} → ((text : List ℕ) → m ≡ need (entries text table n)) → written ≡ with-numbers (0 ∷ 0 ∷ m ∷ 0 ∷ []) slice → written ≡ with-numbers (numbers (judge text)) slice
+    unfolding judge verdict answer numbers
+    judge-accepted slice m w = rw (is-accepted, ← m text) w

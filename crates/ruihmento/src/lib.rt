@@ -1,63 +1,72 @@
 // The services, as a collector calls them. None asks anything of its caller.
 ghost use mathlib.Core.Path.{_≡_};
-ghost use Prim.Native.Nat.{_*_, _≤_};
+ghost use mathlib.Core.List.{[], _∷_};
+ghost use Prim.Native.Nat.{_≤_};
 ghost use lib.ListN.{length};
-ghost use Rattle.meaning.specs.Codes as Codes;
 ghost use Rattle.meaning.specs.Codes.{code};
-ghost use Rattle.meaning.specs.Program.{Program};
-ghost use Rattle.meaning.specs.Memory.{Declarations};
-ghost use Rattle.meaning.specs.Services.{judge, judge-call, variables, variables-call, run, run-call, executed};
-ghost use Rattle.evaluate.specs.Stack.{waiting};
-ghost use Rattle.promises.specs.Promise.{Kept, with-answer, holding};
-ghost use Rattle.ruihmento.specs.Room.{Buffers, Scratch, Prepared, Leaves};
+ghost use Rattle.meaning.specs.Services as S;
+ghost use Rattle.meaning.specs.Services.{judge-call, variables, variables-call, run, run-call, numbers, with-numbers, Kept};
+ghost use Rattle.numbers.specs.Sizes.{four-bytes};
+ghost use Rattle.ruihmento.specs.Contract.{Service-room, Tellable, with-refusal, Leaves, Some-program, Performs, Can-run, Runs-as};
+use blocks::REGISTER;
 use engine::Ended;
 use engine::execute;
-use typing::Judged;
-use variables::list;
+use judge::judge;
+use layout::Stage;
+use layout::UNIT;
+use layout::limit;
+use layout::size;
+use layout::token;
 use meaning::Refusal;
 use meaning::code_of;
-use numbers::put_record;
-use judge::judged;
+use numbers::FOUR;
+use numbers::put_four;
+use typing_expressions::need;
+use variables::list;
 
-// The bytes of an answer.
-const ANSWER: usize = 16;
+// The bytes of an answer: four numbers.
+const ANSWER: usize = FOUR;
 
-// The words of a table of 64 declarations.
-const TABLE: usize = 384;
-
-// The bytes of a short text, and the words of its tree and of its program; the words of those of the longest.
-const SHORT: usize = 512;
-
-const SHORT_WORDS: usize = 1536;
-
-const LONG_WORDS: usize = 12288;
-
-// The same of a small text, with the words of 64 registers; and those of as many registers as the longest text may want.
+// The bytes of a small and of a short text, which are judged in buffers of their own sizes: a buffer is set to zero at each call.
 const SMALL: usize = 128;
 
-const SMALL_WORDS: usize = 384;
+const SHORT: usize = 512;
 
-const SMALL_SCRATCH: usize = 4096;
+// The words of their trees, and those of their tokens, which become their programs.
+const SMALL_TREE: usize = SMALL * UNIT;
 
-const LONG_SCRATCH: usize = 14848;
+const SMALL_CODE: usize = (SMALL + 1) * token::WORDS;
 
-// How many values may wait in an expression.
-const WAITING: usize = 232;
+const SHORT_TREE: usize = SHORT * UNIT;
+
+const SHORT_CODE: usize = (SHORT + 1) * token::WORDS;
+
+// How many values wait at most in the expressions of a program of few, and of one of more words: an expression leaves one waiting for
+// each six of its words.
+const FEW: usize = 32;
+
+const MORE: usize = 128;
+
+const FEW_WORDS: usize = 2 * UNIT * FEW - UNIT;
+
+const MORE_WORDS: usize = 2 * UNIT * MORE - UNIT;
 
 // Writes the four numbers.
 fn tell(answer: &mut [u8], code: u32, place: u32, need: u32, steps: u32)
-    requires { ⌜ 16 ≤ length (now answer) ⌝ }
-    ensures { λ _. ⌜ now (answer .exit) ≡ with-answer code place need steps (now (answer .entry)) ⌝ }
+    requires { ⌜ four-bytes ≤ length (now answer) ⌝ }
+    ensures { λ _. ⌜ now (answer .exit) ≡ with-numbers (code ∷ place ∷ need ∷ steps ∷ []) (now (answer .entry)) ⌝ }
 {
-    put_record(answer, 0, code, place, need, steps);
+    put_four(answer, 0, code, place, need, steps);
 }
 
-// Writes those of a refused text.
-fn refuse(answer: &mut [u8], refusal: Refusal, place: usize)
-    requires { ⌜ (16 ≤ length (now answer)) × (place ≤ 4096) ⌝ }
-    ensures { λ _. ⌜ now (answer .exit) ≡ with-answer (code refusal) place 0 0 (now (answer .entry)) ⌝ }
+// Writes the numbers of a refusal, if the text was refused.
+fn tell_refusal(answer: &mut [u8], judged: Stage)
+    requires { ⌜ Tellable judged (now answer) ⌝ }
+    ensures { λ _. ⌜ now (answer .exit) ≡ with-refusal judged (now (answer .entry)) ⌝ }
 {
-    tell(answer, code_of(refusal), place as u32, 0, 0);
+    if let Stage::Refused { refusal, place } = judged {
+        tell(answer, code_of(refusal), place as u32, 0, 0);
+    }
 }
 
 // The verdict of a text.
@@ -68,13 +77,17 @@ pub extern "C" fn ruihmento_judge(text: &[u8], answer: &mut [u8]) -> u32
     if answer.len() < ANSWER {
         return 0;
     }
-    if text.len() <= SHORT {
-        let mut tree = [0u32; SHORT_WORDS];
-        let mut code = [0u32; SHORT_WORDS];
+    if text.len() <= SMALL {
+        let mut tree = [0u32; SMALL_TREE];
+        let mut code = [0u32; SMALL_CODE];
+        judge_in(text, &mut tree, &mut code, answer);
+    } else if text.len() <= SHORT {
+        let mut tree = [0u32; SHORT_TREE];
+        let mut code = [0u32; SHORT_CODE];
         judge_in(text, &mut tree, &mut code, answer);
     } else {
-        let mut tree = [0u32; LONG_WORDS];
-        let mut code = [0u32; LONG_WORDS];
+        let mut tree = [0u32; size::TREE];
+        let mut code = [0u32; size::TOKENS];
         judge_in(text, &mut tree, &mut code, answer);
     }
     1
@@ -82,63 +95,59 @@ pub extern "C" fn ruihmento_judge(text: &[u8], answer: &mut [u8]) -> u32
 
 // Judges a text in lent buffers.
 fn judge_in(text: &[u8], tree: &mut [u32], code: &mut [u32], answer: &mut [u8])
-    requires { ⌜ Buffers (now text) (now tree) (now code) (now answer) ⌝ }
-    ensures { λ _. ⌜ now (answer .exit) ≡ holding (judge (now (text .entry))) (now (answer .entry)) ⌝ }
+    requires { ⌜ Service-room (now text) (now tree) (now code) (now answer) ⌝ }
+    ensures { λ _. ⌜ now (answer .exit) ≡ with-numbers (numbers (S.judge (now (text .entry)))) (now (answer .entry)) ⌝ }
 {
-    let mut table = [0u32; TABLE];
-    match judged(text, tree, &mut table, code) {
-        Judged::Refused { refusal, place } => {
-            refuse(answer, refusal, place);
-        }
-        Judged::Accepted {
-            count: _,
-            need,
-            size: _,
-        } => {
-            tell(answer, 0, 0, need, 0);
-        }
-    }
+    let mut table = [0u32; size::TABLE];
+    let mut stack = [0u32; size::STACK];
+    let judged = judge(text, tree, &mut table, code, &mut stack);
+    let Stage::Done { count, size: _ } = judged else {
+        tell_refusal(answer, judged);
+        return;
+    };
+    tell(answer, 0, 0, need(&table, count), 0);
 }
 
 // Where the variables of a text lie.
 #[no_mangle]
-pub extern "C" fn ruihmento_variables(text: &[u8], table: &mut [u8], answer: &mut [u8]) -> u32
-    ensures { λ r. ⌜ Kept (variables-call (now (text .entry)) (now (table .entry)) (now (answer .entry))) r (now (answer .exit)) (now (table .exit)) ⌝ }
+pub extern "C" fn ruihmento_variables(text: &[u8], records: &mut [u8], answer: &mut [u8]) -> u32
+    ensures { λ r. ⌜ Kept (variables-call (now (text .entry)) (now (records .entry)) (now (answer .entry))) r (now (answer .exit)) (now (records .exit)) ⌝ }
 {
     if answer.len() < ANSWER {
         return 0;
     }
-    if text.len() <= SHORT {
-        let mut tree = [0u32; SHORT_WORDS];
-        let mut code = [0u32; SHORT_WORDS];
-        list_in(text, table, &mut tree, &mut code, answer);
+    if text.len() <= SMALL {
+        let mut tree = [0u32; SMALL_TREE];
+        let mut code = [0u32; SMALL_CODE];
+        list_in(text, records, &mut tree, &mut code, answer);
+    } else if text.len() <= SHORT {
+        let mut tree = [0u32; SHORT_TREE];
+        let mut code = [0u32; SHORT_CODE];
+        list_in(text, records, &mut tree, &mut code, answer);
     } else {
-        let mut tree = [0u32; LONG_WORDS];
-        let mut code = [0u32; LONG_WORDS];
-        list_in(text, table, &mut tree, &mut code, answer);
+        let mut tree = [0u32; size::TREE];
+        let mut code = [0u32; size::TOKENS];
+        list_in(text, records, &mut tree, &mut code, answer);
     }
     1
 }
 
 // Lists the variables of a text, which is judged in lent buffers.
 fn list_in(text: &[u8], records: &mut [u8], tree: &mut [u32], code: &mut [u32], answer: &mut [u8])
-    requires { ⌜ Buffers (now text) (now tree) (now code) (now answer) ⌝ }
+    requires { ⌜ Service-room (now text) (now tree) (now code) (now answer) ⌝ }
     ensures { λ _. ⌜ Leaves (variables (now (text .entry)) (now (records .entry))) (now (answer .entry)) (now (answer .exit)) (now (records .exit)) ⌝ }
 {
-    let mut table = [0u32; TABLE];
-    match judged(text, tree, &mut table, code) {
-        Judged::Refused { refusal, place } => {
-            refuse(answer, refusal, place);
-        }
-        Judged::Accepted {
-            count,
-            need,
-            size: _,
-        } => {
-            list(&table, count, records);
-            tell(answer, 0, 0, need, count as u32);
-        }
-    }
+    let mut table = [0u32; size::TABLE];
+    let mut stack = [0u32; size::STACK];
+    let judged = judge(text, tree, &mut table, code, &mut stack);
+    let Stage::Done { count, size: _ } = judged else {
+        tell_refusal(answer, judged);
+        return;
+    };
+    list(&table, count, records);
+    let bytes = need(&table, count);
+    let rows = count as u32;
+    tell(answer, 0, 0, bytes, rows);
 }
 
 // Runs a text over a lent memory.
@@ -155,43 +164,48 @@ pub extern "C" fn ruihmento_run(
         return 0;
     }
     if text.len() <= SMALL {
-        let mut scratch = [0u32; SMALL_SCRATCH];
-        let mut code = [0u32; SMALL_WORDS];
-        run_in(text, memory, budget, &mut scratch, &mut code, answer);
+        let mut tree = [0u32; SMALL_TREE];
+        let mut code = [0u32; SMALL_CODE];
+        run_in(text, memory, budget, &mut tree, &mut code, answer);
+    } else if text.len() <= SHORT {
+        let mut tree = [0u32; SHORT_TREE];
+        let mut code = [0u32; SHORT_CODE];
+        run_in(text, memory, budget, &mut tree, &mut code, answer);
     } else {
-        let mut scratch = [0u32; LONG_SCRATCH];
-        let mut code = [0u32; LONG_WORDS];
-        run_in(text, memory, budget, &mut scratch, &mut code, answer);
+        let mut tree = [0u32; size::TREE];
+        let mut code = [0u32; size::TOKENS];
+        run_in(text, memory, budget, &mut tree, &mut code, answer);
     }
     1
 }
 
-// Runs a text, which is judged in lent buffers: the words of its tree become registers when it runs.
+// Runs a text, which is judged in lent buffers.
 fn run_in(
     text: &[u8],
     memory: &mut [u8],
     budget: u32,
-    scratch: &mut [u32],
+    tree: &mut [u32],
     code: &mut [u32],
     answer: &mut [u8],
 )
-    requires { ⌜ Scratch (now text) (now scratch) (now code) (now answer) ⌝ }
+    requires { ⌜ Service-room (now text) (now tree) (now code) (now answer) ⌝ }
     ensures { λ _. ⌜ Leaves (run (now (text .entry)) (now (memory .entry)) budget) (now (answer .entry)) (now (answer .exit)) (now (memory .exit)) ⌝ }
 {
-    let mut table = [0u32; TABLE];
-    let words = code.len();
-    match judged(text, &mut scratch[..words], &mut table, code) {
-        Judged::Refused { refusal, place } => {
-            refuse(answer, refusal, place);
-        }
-        Judged::Accepted {
-            count: _,
-            need,
-            size,
-        } => {
-            perform(&code[..size], &table, need, memory, budget, scratch, answer);
-        }
-    }
+    let mut table = [0u32; size::TABLE];
+    let mut stack = [0u32; size::STACK];
+    let judged = judge(text, tree, &mut table, code, &mut stack);
+    let Stage::Done { count, size } = judged else {
+        tell_refusal(answer, judged);
+        return;
+    };
+    perform(
+        &code[..size],
+        &table,
+        need(&table, count),
+        memory,
+        budget,
+        answer,
+    );
 }
 
 // Runs an accepted program, and writes its answer.
@@ -201,19 +215,17 @@ fn perform(
     need: u32,
     memory: &mut [u8],
     budget: u32,
-    registers: &mut [u32],
     answer: &mut [u8],
 )
-    requires { ⌜ (16 ≤ length (now answer)) × (waiting (length (now code)) * 64 ≤ length (now registers)) ⌝ }
-    requires { ⌜ ((Γ : Declarations) × (P : Program) × Prepared (now code) (now table) need Γ P) ⌝ }
-    ensures { λ _. ⌜ ((Γ : Declarations) (P : Program) → Prepared (now (code .entry)) (now (table .entry)) need Γ P → Leaves (executed (now (memory .entry)) budget (Codes.ok P Γ)) (now (answer .entry)) (now (answer .exit)) (now (memory .exit))) ⌝ }
+    requires { ⌜ (four-bytes ≤ length (now answer)) × Some-program (now code) (now table) need ⌝ }
+    ensures { λ _. ⌜ Performs (now (code .entry)) (now (table .entry)) need budget (now (memory .entry)) (now (memory .exit)) (now (answer .entry)) (now (answer .exit)) ⌝ }
 {
     if memory.len() < need as usize {
         tell(answer, code_of(Refusal::MemoryTooShort), 0, need, 0);
         return;
     }
-    let mut lengths = [0u32; WAITING];
-    match execute(code, table, memory, budget, registers, &mut lengths) {
+    let ended = run_program(code, table, memory, budget);
+    match ended {
         Ended::Spent { place } => {
             tell(answer, code_of(Refusal::BudgetSpent), place, need, budget);
         }
@@ -221,4 +233,24 @@ fn perform(
             tell(answer, 0, 0, need, budget - left);
         }
     }
+}
+
+// Runs an accepted program that has the memory that it needs, with as many registers as its words ask for.
+fn run_program(code: &[u32], table: &[u32], memory: &mut [u8], budget: u32) -> Ended
+    requires { ⌜ Can-run (now code) (now table) (length (now memory)) ⌝ }
+    ensures { λ r. ⌜ Runs-as (now (code .entry)) (now (table .entry)) budget (now (memory .entry)) (now (memory .exit)) r ⌝ }
+{
+    if code.len() <= FEW_WORDS {
+        let mut registers = [0u32; FEW * REGISTER];
+        let mut lengths = [0u32; FEW];
+        return execute(code, table, memory, budget, &mut registers, &mut lengths);
+    }
+    if code.len() <= MORE_WORDS {
+        let mut registers = [0u32; MORE * REGISTER];
+        let mut lengths = [0u32; MORE];
+        return execute(code, table, memory, budget, &mut registers, &mut lengths);
+    }
+    let mut registers = [0u32; size::WAITING * REGISTER];
+    let mut lengths = [0u32; size::WAITING];
+    execute(code, table, memory, budget, &mut registers, &mut lengths)
 }

@@ -3,13 +3,28 @@
 // Proved: the bytes that are handed to standard output are what is shown of that run, for the bytes that came from the two
 // files (`fill_page`), and the program is safe and ends. No contract can say what is read from a file or written to standard
 // output, so that these are the files' bytes, and that they arrive, is the word of the system.
+use layout::limit;
 use libc::STDOUT_FILENO;
+use numbers::FOUR;
 ghost use Prim.Native.Nat.{_≤_};
 ghost use lib.ListN.{length};
-ghost use Rattle.show.specs.Page.{Shows};
+ghost use Rattle.show.specs.Page.{memory-limit, page-limit, Shows};
 ghost use Rattle.show.specs.Reading.{count-of};
 
+// The steps that a routine may take.
 const BUDGET: u32 = 1000;
+
+// One byte more than a text may have, so that a longer routine is refused and not cut.
+const TEXT: usize = limit::TEXT + 1;
+
+// The bytes of `memory.bin` that are read, and those of a row in which they are printed.
+const MEMORY: usize = 4096;
+
+const ROW: usize = 16;
+
+// The longest page: four numbers of ten digits, each with the byte that ends it, and a row for each 16 bytes, of two digits a byte and the
+// byte that ends it.
+const PAGE: usize = 4 * (10 + 1) + MEMORY / ROW * (2 * ROW + 1);
 
 // What reading a file gives: so many bytes at the start of the buffer, or nothing, where it failed.
 enum Got {
@@ -19,10 +34,10 @@ enum Got {
 
 // Fills the page with what is shown of a run, and answers how many bytes that is.
 fn fill_page(text: &[u8], memory: &mut [u8], page: &mut [u8]) -> usize
-    requires { ⌜ (length (now memory) ≤ 4096) × (8492 ≤ length (now page)) ⌝ }
+    requires { ⌜ (length (now memory) ≤ memory-limit) × (page-limit ≤ length (now page)) ⌝ }
     ensures { λ r. ⌜ Shows (now (text .entry)) (now (memory .entry)) r (now (page .exit)) ⌝ }
 {
-    let mut answer = [0u8; 16];
+    let mut answer = [0u8; FOUR];
     ruihmento::ruihmento_run(text, memory, BUDGET, &mut answer);
     print::put_shown(page, &answer, memory)
 }
@@ -73,11 +88,11 @@ fn read_start(path: &[u8], trouble: &[u8], buffer: &mut [u8]) -> Got
     Got::Bytes(count)
 }
 
-// The text has room for one byte more than is allowed, so that a longer routine is refused and not cut.
+// Reads the two files, and writes the page of their run to standard output.
 fn main() {
-    let mut text = [0u8; 4097];
-    let mut memory = [0u8; 4096];
-    let mut page = [0u8; 8492];
+    let mut text = [0u8; TEXT];
+    let mut memory = [0u8; MEMORY];
+    let mut page = [0u8; PAGE];
     let Got::Bytes(length) = read_start(b"routine.txt", b"show: cannot read routine.txt", &mut text)
     else {
         return;

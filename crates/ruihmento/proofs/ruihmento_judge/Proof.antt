@@ -1,5 +1,5 @@
 -- `ruihmento::ruihmento_judge` meets its contract. Assumes nothing.
-use Rattle.ruihmento.proofs.Judging.{buffers, judge-not-called, judge-called}
+use Rattle.ruihmento.proofs.Judging.{judge-not-called, judge-called}
 use borrow.Author.Needs.{needs}
 use Rattle.ruihmento.proofs.ruihmento_judge.Statement.{statement}
 use Rattle.ruihmento.proofs.ruihmento_judge.Tie as tie
@@ -14,7 +14,7 @@ slice-aggregate-judge-in-2 : tie.Need-slice-aggregate-judge-in-2
 slice-aggregate-judge-in-2 c = search needs
 
 judge-in-requires : tie.Need-judge-in-requires
-judge-in-requires c κs = buffers 1536 (search needs) (search needs) (search needs) (search needs) (c .before .before .before .before .if1 .left)
+judge-in-requires c κs = search needs
 
 slice-aggregate-judge-in-3 : tie.Need-slice-aggregate-judge-in-3
 slice-aggregate-judge-in-3 c = search needs
@@ -23,7 +23,16 @@ slice-aggregate-judge-in-4 : tie.Need-slice-aggregate-judge-in-4
 slice-aggregate-judge-in-4 c = search needs
 
 judge-in-requires-2 : tie.Need-judge-in-requires-2
-judge-in-requires-2 c κs = buffers 12288 (search needs) (search needs) (search needs) (search needs) (c .before .before .before .before .if1 .left)
+judge-in-requires-2 c κs = search needs
+
+slice-aggregate-judge-in-5 : tie.Need-slice-aggregate-judge-in-5
+slice-aggregate-judge-in-5 c = search needs
+
+slice-aggregate-judge-in-6 : tie.Need-slice-aggregate-judge-in-6
+slice-aggregate-judge-in-6 c = search needs
+
+judge-in-requires-3 : tie.Need-judge-in-requires-3
+judge-in-requires-3 c κs = search needs
 
 same-length : tie.Need-same-length
 same-length c = search needs
@@ -35,7 +44,13 @@ same-length-2 : tie.Need-same-length-2
 same-length-2 c = search needs
 
 returns-3 : tie.Need-returns-3
-returns-3 c = judge-called _ _ (c .before .before .before .before .before .before .before .before .before .if1 .left) (c .before .before .before .before .judge-in2 .ensures)
+returns-3 c = judge-called _ _ (c .before .before .before .before .before .before .before .before .before .before .if1 .left) (c .before .before .before .before .judge-in2 .ensures)
+
+same-length-3 : tie.Need-same-length-3
+same-length-3 c = search needs
+
+returns-4 : tie.Need-returns-4
+returns-4 c = judge-called _ _ (c .before .before .before .before .before .before .before .before .before .before .if1 .left) (c .before .before .before .before .judge-in3 .ensures)
 
 pub ruihmento-judge-spec : {M : Type 1} → statement M
 ruihmento-judge-spec =
@@ -48,7 +63,12 @@ ruihmento-judge-spec =
     slice-aggregate-judge-in-3
     slice-aggregate-judge-in-4
     judge-in-requires-2
+    slice-aggregate-judge-in-5
+    slice-aggregate-judge-in-6
+    judge-in-requires-3
     same-length
     returns-2
     same-length-2
-    returns-3)
+    returns-3
+    same-length-3
+    returns-4)

@@ -1,5 +1,4 @@
 -- `ruihmento::ruihmento_variables` meets its contract. Assumes nothing.
-use Rattle.ruihmento.proofs.Judging.{buffers}
 use Rattle.ruihmento.proofs.Listing.{variables-not-called, variables-called}
 use borrow.Author.Needs.{needs}
 use Rattle.ruihmento.proofs.ruihmento_variables.Statement.{statement}
@@ -15,7 +14,7 @@ slice-aggregate-list-in-2 : tie.Need-slice-aggregate-list-in-2
 slice-aggregate-list-in-2 c = search needs
 
 list-in-requires : tie.Need-list-in-requires
-list-in-requires c κs = buffers 1536 (search needs) (search needs) (search needs) (search needs) (c .before .before .before .before .before .if1 .left)
+list-in-requires c κs = search needs
 
 slice-aggregate-list-in-3 : tie.Need-slice-aggregate-list-in-3
 slice-aggregate-list-in-3 c = search needs
@@ -24,7 +23,16 @@ slice-aggregate-list-in-4 : tie.Need-slice-aggregate-list-in-4
 slice-aggregate-list-in-4 c = search needs
 
 list-in-requires-2 : tie.Need-list-in-requires-2
-list-in-requires-2 c κs = buffers 12288 (search needs) (search needs) (search needs) (search needs) (c .before .before .before .before .before .if1 .left)
+list-in-requires-2 c κs = search needs
+
+slice-aggregate-list-in-5 : tie.Need-slice-aggregate-list-in-5
+slice-aggregate-list-in-5 c = search needs
+
+slice-aggregate-list-in-6 : tie.Need-slice-aggregate-list-in-6
+slice-aggregate-list-in-6 c = search needs
+
+list-in-requires-3 : tie.Need-list-in-requires-3
+list-in-requires-3 c κs = search needs
 
 same-length : tie.Need-same-length
 same-length c = search needs
@@ -33,7 +41,10 @@ same-length-2 : tie.Need-same-length-2
 same-length-2 c = search needs
 
 returns-2 : tie.Need-returns-2
-returns-2 c = variables-called _ _ _ (c .before .before .before .before .before .before .before .before .before .before .before .before .if1 .left) (c .before .before .before .before .before .before .list-in .ensures)
+returns-2 c =
+    let list-in = c .before .before .before .before .before .before in
+    let if1 = list-in .before .before .before .before .before .before in
+    variables-called _ _ _ (if1 .if1 .left) (list-in .list-in .ensures)
 
 same-length-3 : tie.Need-same-length-3
 same-length-3 c = search needs
@@ -42,7 +53,22 @@ same-length-4 : tie.Need-same-length-4
 same-length-4 c = search needs
 
 returns-3 : tie.Need-returns-3
-returns-3 c = variables-called _ _ _ (c .before .before .before .before .before .before .before .before .before .before .before .before .if1 .left) (c .before .before .before .before .before .before .list-in2 .ensures)
+returns-3 c =
+    let list-in2 = c .before .before .before .before .before .before in
+    let if1 = list-in2 .before .before .before .before .before .before .before in
+    variables-called _ _ _ (if1 .if1 .left) (list-in2 .list-in2 .ensures)
+
+same-length-5 : tie.Need-same-length-5
+same-length-5 c = search needs
+
+same-length-6 : tie.Need-same-length-6
+same-length-6 c = search needs
+
+returns-4 : tie.Need-returns-4
+returns-4 c =
+    let list-in3 = c .before .before .before .before .before .before in
+    let if1 = list-in3 .before .before .before .before .before .before .before in
+    variables-called _ _ _ (if1 .if1 .left) (list-in3 .list-in3 .ensures)
 
 pub ruihmento-variables-spec : {M : Type 1} → statement M
 ruihmento-variables-spec =
@@ -55,9 +81,15 @@ ruihmento-variables-spec =
     slice-aggregate-list-in-3
     slice-aggregate-list-in-4
     list-in-requires-2
+    slice-aggregate-list-in-5
+    slice-aggregate-list-in-6
+    list-in-requires-3
     same-length
     same-length-2
     returns-2
     same-length-3
     same-length-4
-    returns-3)
+    returns-3
+    same-length-5
+    same-length-6
+    returns-4)

@@ -1,43 +1,31 @@
 -- `ruihmento::run_in` meets its contract. Assumes nothing.
-use Rattle.ruihmento.proofs.Judging.{known, near}
-use Rattle.ruihmento.proofs.Ready.{words-fit, words-counted, words-in, a-program, prepared}
-use Rattle.ruihmento.proofs.Running.{counted, tree-lent, registers-lent, run-refused, run-accepted}
+use Rattle.ruihmento.proofs.Judging.{judging-room, known, tellable, accepts}
+use Rattle.ruihmento.proofs.Ready.{words-fit, words-counted, a-program, prepared}
+use Rattle.ruihmento.proofs.Running.{run-refused, run-accepted}
 use borrow.Author.Needs.{needs}
 use Rattle.ruihmento.proofs.run_in.Statement.{statement}
 use Rattle.ruihmento.proofs.run_in.Tie as tie
 
-slice-relend-prefix-judged : tie.Need-slice-relend-prefix-judged
-slice-relend-prefix-judged c = search needs
+slice-aggregate-judge : tie.Need-slice-aggregate-judge
+slice-aggregate-judge c = search needs
 
-slice-aggregate-judged : tie.Need-slice-aggregate-judged
-slice-aggregate-judged c = counted _ _ (c .before .before .before .before .before .before .pre .tree-room)
+slice-aggregate-judge-2 : tie.Need-slice-aggregate-judge-2
+slice-aggregate-judge-2 c = search needs
 
-slice-aggregate-judged-2 : tie.Need-slice-aggregate-judged-2
-slice-aggregate-judged-2 c = search needs
+judge-requires : tie.Need-judge-requires
+judge-requires c κs = judging-room (c .before .before .before .before .before .before .before .before .before .pre) (search needs) (search needs)
 
-judged-requires : tie.Need-judged-requires
-judged-requires c κs = tree-lent (c .before .before .before .before .before .before .before .before .pre) (search needs)
+enum-known-judged : tie.Need-enum-known-judged
+enum-known-judged c = search needs
 
-enum-known-refusal : tie.Need-enum-known-refusal
-enum-known-refusal c = search needs
+enum-told : tie.Need-enum-told
+enum-told c = search needs
 
-refuse-requires : tie.Need-refuse-requires
-refuse-requires c κs = (c .before .before .before .before .before .before .before .before .before .before .before .before .before .before .before .before .before .before .pre .answer-room, near (known (c .before .before .before .before .before .before .before .before .before .judged .ensures) (c .before .before .refusal .given .1)))
-
-enum-known-need : tie.Need-enum-known-need
-enum-known-need c = search needs
-
-slice-reshare-prefix-perform : tie.Need-slice-reshare-prefix-perform
-slice-reshare-prefix-perform c = words-fit (known (c .before .before .before .before .before .before .before .before .judged .ensures) (c .before .need .given .1))
-
-slice-aggregate-perform : tie.Need-slice-aggregate-perform
-slice-aggregate-perform c = words-counted (known (c .before .before .before .before .before .before .before .before .before .judged .ensures) (c .before .before .need .given .1))
-
-slice-aggregate-perform-2 : tie.Need-slice-aggregate-perform-2
-slice-aggregate-perform-2 c = search needs
-
-perform-requires : tie.Need-perform-requires
-perform-requires c κs = let g = known (c .before .before .before .before .before .before .before .before .before .before .before .before .before .judged .ensures) (c .before .before .before .before .before .before .need .given .1) in ((c .before .before .before .before .before .before .before .before .before .before .before .before .before .before .before .before .before .before .before .before .before .before .pre .answer-room, registers-lent (c .before .before .before .before .before .before .before .before .before .before .before .before .before .before .before .before .before .before .before .before .before .before .pre) _ _ (words-in g _ (search needs)) (search needs)), a-program g)
+tell-refusal-requires : tie.Need-tell-refusal-requires
+tell-refusal-requires c κs =
+    let judge = c .before .before .before .before .before .before .before .before .before in
+    let start = judge .before .before .before .before .before .before .before .before .before .before in
+    tellable (judge .judge .ensures) _ (start .pre .answer-room)
 
 same-length : tie.Need-same-length
 same-length c = search needs
@@ -49,7 +37,37 @@ same-length-3 : tie.Need-same-length-3
 same-length-3 c = search needs
 
 returns : tie.Need-returns
-returns c = run-refused _ _ (known (c .before .before .before .before .before .before .before .before .before .before .before .before .judged .ensures) (c .before .before .before .before .before .refusal .given .1)) _ (c .before .before .refuse .ensures)
+returns c =
+    let tell-refusal = c .before .before in
+    let enum-told = tell-refusal .before .before in
+    let judge = enum-told .before .before .before .before .before .before .before .before in
+    run-refused _ _ (judge .judge .ensures) (enum-told .enum-told .given .1) _ (tell-refusal .tell-refusal .ensures)
+
+slice-reshare-prefix-perform : tie.Need-slice-reshare-prefix-perform
+slice-reshare-prefix-perform c = words-fit (known (c .before .before .before .before .before .before .before .before .before .judge .ensures) (c .before .judged .given .1))
+
+slice-aggregate-perform : tie.Need-slice-aggregate-perform
+slice-aggregate-perform c = words-counted (known (c .before .before .before .before .before .before .before .before .before .before .judge .ensures) (c .before .before .judged .given .1))
+
+slice-aggregate-perform-2 : tie.Need-slice-aggregate-perform-2
+slice-aggregate-perform-2 c = search needs
+
+slice-aggregate-need : tie.Need-slice-aggregate-need
+slice-aggregate-need c = search needs
+
+need-requires : tie.Need-need-requires
+need-requires c κs =
+    let judged = c .before .before .before .before in
+    let judge = judged .before .before .before .before .before .before .before .before in
+    record { the = _; is = accepts (known (judge .judge .ensures) (judged .judged .given .1)) .rows }
+
+perform-requires : tie.Need-perform-requires
+perform-requires c κs =
+    let need = c .before .before in
+    let judged = need .before .before .before .before .before in
+    let judge = judged .before .before .before .before .before .before .before .before in
+    let start = judge .before .before .before .before .before .before .before .before .before .before in
+    (start .pre .answer-room, a-program (known (judge .judge .ensures) (judged .judged .given .1)) (need .need .ensures))
 
 same-length-4 : tie.Need-same-length-4
 same-length-4 c = search needs
@@ -64,27 +82,33 @@ same-length-7 : tie.Need-same-length-7
 same-length-7 c = search needs
 
 returns-2 : tie.Need-returns-2
-returns-2 c = let g = known (c .before .before .before .before .before .before .before .before .before .before .before .before .before .before .before .before .before .before .before .before .judged .ensures) (c .before .before .before .before .before .before .before .before .before .before .before .before .before .need .given .1) in run-accepted _ _ g _ (c .before .before .before .before .before .before .perform .ensures _ _ (prepared g))
+returns-2 c =
+    let perform = c .before .before .before .before in
+    let need = perform .before .before .before in
+    let judged = need .before .before .before .before .before in
+    let judge = judged .before .before .before .before .before .before .before .before in
+    let g = known (judge .judge .ensures) (judged .judged .given .1) in run-accepted _ _ g _ (perform .perform .ensures _ _ (prepared g (need .need .ensures)))
 
 pub run-in-spec : {M : Type 1} → statement M
 run-in-spec =
     tie.close
     (tie.spec
-    slice-relend-prefix-judged
-    slice-aggregate-judged
-    slice-aggregate-judged-2
-    judged-requires
-    enum-known-refusal
-    refuse-requires
-    enum-known-need
-    slice-reshare-prefix-perform
-    slice-aggregate-perform
-    slice-aggregate-perform-2
-    perform-requires
+    slice-aggregate-judge
+    slice-aggregate-judge-2
+    judge-requires
+    enum-known-judged
+    enum-told
+    tell-refusal-requires
     same-length
     same-length-2
     same-length-3
     returns
+    slice-reshare-prefix-perform
+    slice-aggregate-perform
+    slice-aggregate-perform-2
+    slice-aggregate-need
+    need-requires
+    perform-requires
     same-length-4
     same-length-5
     same-length-6

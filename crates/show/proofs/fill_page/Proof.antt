@@ -16,9 +16,11 @@ slice-aggregate-put-shown c = search needs
 
 put-shown-requires : tie.Need-put-shown-requires
 put-shown-requires c κs =
-    let ended = c .before .before .before .before .before .before .ruihmento-run in
-    let start = c .before .before .before .before .before .before .before .before .before .before .before .before in
-    let k = ran _ _ _ _ _ _ (omega arith) (omega (arith, start .pre, ended .kept)) (ended .ensures) in (omega (arith, ended .kept), omega (arith, k .fits, start .pre))
+    let call = c .before .before .before .before .before .before in
+    let ended = call .ruihmento-run in
+    let start = call .before .before .before .before .before .before in
+    let k = ran _ _ _ _ _ _ (omega arith) (omega (arith, start .pre, ended .kept)) (ended .ensures) in
+    (omega (arith, ended .kept), omega (arith, k .fits, start .pre))
 
 same-length : tie.Need-same-length
 same-length c = search needs
@@ -28,9 +30,11 @@ same-length-2 c = search needs
 
 returns : tie.Need-returns
 returns c =
-    let ended = c .before .before .before .before .before .before .before .before .before .ruihmento-run in
-    let start = c .before .before .before .before .before .before .before .before .before .before .before .before .before .before .before in
-    let k = ran _ _ _ _ _ _ (omega arith) (omega (arith, start .pre, ended .kept)) (ended .ensures) in shows _ _ _ _ k (c .before .before .put-shown .ensures) (omega (arith, start .pre))
+    let call = c .before .before .before .before .before .before .before .before .before in
+    let ended = call .ruihmento-run in
+    let start = call .before .before .before .before .before .before in
+    let k = ran _ _ _ _ _ _ (omega arith) (omega (arith, start .pre, ended .kept)) (ended .ensures) in
+    shows _ _ _ _ k (c .before .before .put-shown .ensures) (omega (arith, start .pre))
 
 pub fill-page-spec : {M : Type 1} → statement M
 fill-page-spec =

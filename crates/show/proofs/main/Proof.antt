@@ -50,16 +50,24 @@ returns-2 : tie.Need-returns-2
 returns-2 c = search needs
 
 array-share-prefix-text : tie.Need-array-share-prefix-text
-array-share-prefix-text c = omega (arith, c .before .before .before .before .before .before .before .before .before .before .before .before .read-start .ensures, ap count-of (c .before .before .before .before .before .before .before .before .before .length .given .1))
+array-share-prefix-text c =
+    let read = c .before .before .before .before .before .before .before .before .before in
+    omega (arith, read .before .before .before .read-start .ensures, ap count-of (read .length .given .1))
 
 slice-aggregate-fill-page : tie.Need-slice-aggregate-fill-page
-slice-aggregate-fill-page c = simp length-take (omega (arith, c .before .before .before .before .before .before .before .before .before .before .before .before .before .read-start .ensures, ap count-of (c .before .before .before .before .before .before .before .before .before .before .length .given .1)))
+slice-aggregate-fill-page c =
+    let read = c .before .before .before .before .before .before .before .before .before .before in
+    simp length-take (omega (arith, read .before .before .before .read-start .ensures, ap count-of (read .length .given .1)))
 
 array-borrow-prefix-memory : tie.Need-array-borrow-prefix-memory
-array-borrow-prefix-memory c = omega (arith, c .before .before .before .before .before .read-start2 .ensures, ap count-of (c .before .before .size .given .1))
+array-borrow-prefix-memory c =
+    let read = c .before .before in
+    omega (arith, read .before .before .before .read-start2 .ensures, ap count-of (read .size .given .1))
 
 slice-aggregate-fill-page-2 : tie.Need-slice-aggregate-fill-page-2
-slice-aggregate-fill-page-2 c = simp length-take (omega (arith, c .before .before .before .before .before .before .read-start2 .ensures, ap count-of (c .before .before .before .size .given .1)))
+slice-aggregate-fill-page-2 c =
+    let read = c .before .before .before in
+    simp length-take (omega (arith, read .before .before .before .read-start2 .ensures, ap count-of (read .size .given .1)))
 
 slice-aggregate-fill-page-3 : tie.Need-slice-aggregate-fill-page-3
 slice-aggregate-fill-page-3 c = search needs

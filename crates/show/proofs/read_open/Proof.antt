@@ -50,7 +50,9 @@ returns-2 : tie.Need-returns-2 Inv-loop μ-loop
 returns-2 c = search needs
 
 add-count : tie.Need-add-count Inv-loop μ-loop
-add-count c = let h = ap count-of (c .before .before .more .given .1) in omega (arith, c .before .before .before .before .before .before .read-once .ensures, c .before .before .before .before .before .before .read-once .kept .1 .0, h)
+add-count c =
+    let once = c .before .before .before .before .before .before .read-once in
+    omega (arith, once .ensures, once .kept .1 .0, ap count-of (c .before .before .more .given .1))
 
 loop-less : tie.Need-loop-less Inv-loop μ-loop
 loop-less c = search needs
@@ -58,8 +60,10 @@ loop-less c = search needs
 loop-again : tie.Need-loop-again Inv-loop μ-loop
 loop-again c =
     let l = c .before .before .before .before .before .before .before .before .before .loop in
-    let m = same-len-mid (l .count) (length (l .buffer) - l .count) (l .buffer) (c .before .before .before .before .before .before .read-once .last .1 .0) (c .before .before .before .before .before .before .read-once .kept .1 .0) in
-    let k = simp (length-take, length-drop) at (c .before .before .before .before .before .before .read-once .kept .1 .0) in (omega (arith, c .before .before .before .before .before .before .read-once .ensures, ap count-of (c .before .before .more .given .1), m, k), omega (arith, m, l .inv .1))
+    let once = c .before .before .before .before .before .before .read-once in
+    let m = same-len-mid (l .count) (length (l .buffer) - l .count) (l .buffer) (once .last .1 .0) (once .kept .1 .0) in
+    let k = simp (length-take, length-drop) at (once .kept .1 .0) in
+    (omega (arith, once .ensures, ap count-of (c .before .before .more .given .1), m, k), omega (arith, m, l .inv .1))
 
 same-length-3 : tie.Need-same-length-3 Inv-loop μ-loop
 same-length-3 c = search needs
