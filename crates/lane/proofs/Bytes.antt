@@ -10,9 +10,12 @@ use lib.Seq.{drop-drop, length-take-le, take-append-le, drop-append-le, drop-app
 use Rattle.meaning.specs.declared.Kind.{Kind}
 use Rattle.meaning.specs.declared.Kind.the-variants.{Int as int, Bool as bool}
 use Rattle.meaning.specs.Memory.{Memory, Value, Mask, Declared, Declarations, declared, size, whole, little-endian, bytes-of, lane-of, load, store, spread, fetch, update}
+use Rattle.laws.specs.Lengths.{Spreadable}
+use Rattle.laws.specs.Declarations.{end-of}
+use Rattle.laws.proofs.Values.{length-spread, length-load}
 use Rattle.lane.specs.Lane.{seat, lane-bytes}
 use Rattle.lane.specs.Values.{lane}
-use Rattle.lane.proofs.Lanes.{Spreads, Reaches, length-spread, lane-spread}
+use Rattle.lane.proofs.Lanes.{Reaches, lane-spread}
 
 -- Part of a list: c elements from b on.
 abbrev pub part : {A : Type 0} → ℕ → ℕ → List A → List A
@@ -72,11 +75,6 @@ unfolding bytes-of size
 length-bytes-of int a = length-little-endian 4 a
 length-bytes-of bool a = refl
 
-pub length-load : (k : Kind) (n : ℕ) (l : List ℕ) → length (load k n l) ≡ n
-unfolding load
-length-load k zero l = refl
-length-load k (suc n) l = ap suc (length-load k n (drop (size k) l))
-
 -- Lane 0, and a lane further on.
 module _ (k : Kind) where
   first-of : (xs ys : List ℕ) → length xs ≡ size k → part (0 * size k) (size k) (xs ++ ys) ≡ xs
@@ -131,23 +129,15 @@ unfolding lane
 load-lane k n i a M h =
     rw (length-load k n (drop a M), ← (drop-drop (seat n i * size k) a M)) (getD-load k n (seat n i) (drop a M) h)
 
--- The end of a variable.
-abbrev pub end-of : Declared → ℕ
-end-of d = d .address + whole (d .kind) (d .lanes)
-
 -- Reading one variable.
 module _ (Γ : Declarations) (M : Memory) (x : ℕ) where
-  pub length-fetch : length (fetch Γ M x) ≡ (declared Γ x) .lanes
-  unfolding fetch
-  length-fetch = length-load ((declared Γ x) .kind) ((declared Γ x) .lanes) (drop ((declared Γ x) .address) M)
-
   pub fetch-lane : (i : ℕ) → Reaches i ((declared Γ x) .lanes) → lane 0 (fetch Γ M x) i ≡ lane-of ((declared Γ x) .kind) (lane-bytes i (declared Γ x) M)
   unfolding fetch lane-bytes
   fetch-lane i h = load-lane ((declared Γ x) .kind) ((declared Γ x) .lanes) i ((declared Γ x) .address) M h
 
 -- Writing one.
 module _ (Γ : Declarations) (M : Memory) (x : ℕ) (m : Mask) (v : Value) (fits : end-of (declared Γ x) ≤ length M)
-    (sm : Spreads ((declared Γ x) .lanes) (length m)) (sv : Spreads ((declared Γ x) .lanes) (length v)) where
+    (sm : Spreadable ((declared Γ x) .lanes) (length m)) (sv : Spreadable ((declared Γ x) .lanes) (length v)) where
   abbrev d : Declared
   d = declared Γ x
 

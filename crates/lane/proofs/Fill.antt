@@ -7,15 +7,16 @@ use native.Mathlib.Omega.{arith}
 use lib.ListN.{length, take, drop, replicate, length-replicate, length-drop}
 use lib.Seq.{take-all, length-take-le}
 use Rattle.meaning.specs.Memory.{Memory, Declared, Declarations, declared, size, whole, need}
+use Rattle.laws.specs.Declarations.{Ordered}
 use Rattle.lane.specs.Lane.{seat, lane-bytes}
 use Rattle.lane.proofs.Tests.{Order, below, same, above, order}
 use Rattle.lane.proofs.Lanes.{Reaches}
-use Rattle.lane.proofs.Sound.{lanes-of}
+use Rattle.lane.proofs.Programs.{lanes-of}
 use Rattle.lane.proofs.Bytes.{part, length-replaced, part-inside, part-before}
-use Rattle.lane.proofs.Declared.{Laid, each-length, thin-declared, Paired}
+use Rattle.lane.proofs.Declared.{each-length, thin-declared, Paired}
 use Rattle.lane.proofs.Memories.{Agree}
 
-module _ (Δ : Declarations) (laid : Laid Δ) (given : ℕ → List ℕ) (sized : (x : ℕ) → x < length Δ → length (given x) ≡ whole ((declared Δ x) .kind) (lanes-of Δ x)) where
+module _ {text : List ℕ} (Δ : Declarations) (laid : Ordered text Δ) (given : ℕ → List ℕ) (sized : (x : ℕ) → x < length Δ → length (given x) ≡ whole ((declared Δ x) .kind) (lanes-of Δ x)) where
   abbrev from : ℕ → ℕ
   from x = (declared Δ x) .address
 
@@ -32,7 +33,7 @@ module _ (Δ : Declarations) (laid : Laid Δ) (given : ℕ → List ℕ) (sized 
   length-filled zero h = length-replicate (need Δ) 0
   length-filled (suc n) h =
       let l : length (filled n) ≡ need Δ = length-filled n (omega arith) in
-      length-replaced (from n) (width n) (given n) (filled n) (omega (arith, laid .within n h)) (sized n h) ∙ l
+      length-replaced (from n) (width n) (given n) (filled n) (omega (arith, laid .ends n h)) (sized n h) ∙ l
 
   filled-at : (n x : ℕ) → x < n → n ≤ length Δ → part (from x) (width x) (filled n) ≡ given x
   unfolding filled
@@ -40,7 +41,7 @@ module _ (Δ : Declarations) (laid : Laid Δ) (given : ℕ → List ℕ) (sized 
   filled-at (suc n) x h k = go (filled-at n x) (order x n)
     where
       fits : from n + width n ≤ length (filled n)
-      fits = omega (arith, laid .within n k, length-filled n (omega arith))
+      fits = omega (arith, laid .ends n k, length-filled n (omega arith))
 
       go : (x < n → n ≤ length Δ → part (from x) (width x) (filled n) ≡ given x) → Order x n → part (from x) (width x) (filled (suc n)) ≡ given x
       go old (below l) = part-before (from n) (width n) (given n) (filled n) fits (sized n k) (from x) (width x) (laid .apart x n l k) ∙ old l (omega arith)
@@ -60,13 +61,13 @@ one-lane-part i d N e =
     rw (e, a, w)
 
 -- A memory for the narrowed declarations that agrees in lane i.
-module _ (i : ℕ) (Γ Δ : Declarations) (pair : Paired Γ Δ) (all : (x : ℕ) → x < length Γ → Reaches i (lanes-of Γ x)) (M : Memory) (long : need Γ ≤ length M) where
+module _ (text : List ℕ) (i : ℕ) (Γ Δ : Declarations) (pair : Paired text Γ Δ) (all : (x : ℕ) → x < length Γ → Reaches i (lanes-of Γ x)) (M : Memory) (long : need Γ ≤ length M) where
   lane-size : (x : ℕ) → x < length Γ → length (lane-bytes i (declared Γ x) M) ≡ size ((declared Γ x) .kind)
   unfolding lane-bytes whole
   lane-size x h =
       let d = declared Γ x in
       let at : ℕ = d .address + seat (d .lanes) i * size (d .kind) in
-      length-take-le (size (d .kind)) (drop at M) (omega (arith, length-drop at M, pair .laid .within x h, mul-le-mul-right (size (d .kind)) (all x h)))
+      length-take-le (size (d .kind)) (drop at M) (omega (arith, length-drop at M, pair .laid .ends x h, mul-le-mul-right (size (d .kind)) (all x h)))
 
   thin-size : (x : ℕ) → x < length Δ → length (lane-bytes i (declared Γ x) M) ≡ whole ((declared Δ x) .kind) (lanes-of Δ x)
   unfolding whole

@@ -11,13 +11,16 @@ use Rattle.meaning.specs.Codes.{if_then_else_}
 use Rattle.meaning.specs.Program.{Code, Program}
 use Rattle.meaning.specs.Memory.{Value, Mask, truth, Declarations}
 use Rattle.meaning.specs.Running.{value, Event, passes, stores, Ran, stopped, done, Run, and-then, costs, mask-and, mask-and-not, unless-empty, branches, while-left, loop, evaluating, testing, run}
-use Rattle.meaning.specs.Typing.{joined}
+use Rattle.meaning.specs.Typing.{joined, width}
+use Rattle.laws.specs.Lengths.{Spreadable, Suits, Matched, Fits, fits-nothing, fits-step, fits-put, fits-both, fits-choice, fits-cycle, fits-alone}
+use Rattle.laws.proofs.Lengths.{joined-many, matched-suits, mask-spreads, suits-body, joined-body}
+use Rattle.laws.proofs.Values.{value-length, length-mask-and, length-mask-and-not}
 use Rattle.lane.specs.Lane.{seat}
 use Rattle.lane.specs.Values.{lane}
 use Rattle.lane.proofs.Tests.{and-l, and-r}
-use Rattle.lane.proofs.Lanes.{Spreads, Reaches, joined-many, reaches-joined, length-mask-and, length-mask-and-not, lane-mask-and, lane-mask-and-not, active-is-some}
-use Rattle.lane.proofs.Sound.{no-alone, Fits, lanes-of, Has, has-fits, has-reaches, mask-spreads, fits-body, joined-body, Sound, a-nothing, a-step, a-put, a-both, a-choice, a-cycle, an-alone}
-use Rattle.lane.proofs.Values.{value-length, value-lane}
+use Rattle.lane.proofs.Lanes.{Reaches, reaches-joined, lane-mask-and, lane-mask-and-not, active-is-some}
+use Rattle.lane.proofs.Programs.{no-alone, lanes-of, reaches-width}
+use Rattle.lane.proofs.Values.{value-lane}
 use Rattle.lane.proofs.Masked.{Still, Leaves, Off, Quiet, quiet-then, quiet-unless, Quiet-test, quiet-loop, quiet-testing, by, run-quiet}
 
 -- One true lane.
@@ -31,7 +34,7 @@ pub record Holds {S S′ : Type 0} (Γ : Declarations) (i : ℕ) (get : S → �
   pub still : (τ : S′) → Still Γ i get effect (λ σ. R σ τ)
   pub reads : (σ : S) (τ : S′) → R σ τ → (x : ℕ) → x < length Γ → get′ τ x ≡ lane 0 (get σ x) i ∷ []
   pub steps : (σ : S) (τ : S′) → R σ τ → (p : ℕ) → R (effect σ (passes p)) (effect′ τ (passes p))
-  pub writes : (σ : S) (τ : S′) → R σ τ → (p x : ℕ) (m : Mask) (v : Value) → x < length Γ → Spreads (lanes-of Γ x) (length m) → Spreads (lanes-of Γ x) (length v)
+  pub writes : (σ : S) (τ : S′) → R σ τ → (p x : ℕ) (m : Mask) (v : Value) → x < length Γ → Spreadable (lanes-of Γ x) (length m) → Spreadable (lanes-of Γ x) (length v)
       → lane false m i ≡ true → R (effect σ (stores p x m v)) (effect′ τ (stores p x one-true (lane 0 v i ∷ [])))
 
 -- What ends is followed, with no fewer steps left.
@@ -119,8 +122,8 @@ module _ {S S′ : Type 0} (i : ℕ) (R : S → S′ → Type 0) where
   follow-if C false r q r′ q′ h k = k
 
   -- A condition v of more lanes than one: lane i goes into one of the branches, and is off in the other.
-  module _ (C : ℕ) (v : Value) (fits : Fits C (length v)) (here : Reaches i (length v)) (many : 1 < length v) (s : On i R C) where
-    spreads : Spreads (length v) (length (s .mask))
+  module _ (C : ℕ) (v : Value) (fits : Suits C (length v)) (here : Reaches i (length v)) (many : 1 < length v) (s : On i R C) where
+    spreads : Spreadable (length v) (length (s .mask))
     spreads = rw (s .size) (mask-spreads C (length v) fits many)
 
     in-first : (g : Bool) → truth (lane 0 v i) ≡ g → lane false (mask-and (s .mask) v) i ≡ g
@@ -155,7 +158,7 @@ module _ {S S′ : Type 0} (i : ℕ) (R : S → S′ → Type 0) where
           let a = in-second false e in
           rw (active-is-some i (mask-and-not (s .mask) v) a) ((rw joined-many at follows) (on-under s (length v) (mask-and-not (s .mask) v) (length-mask-and-not (s .mask) v spreads) a))
 
-  follow-branches : (C : ℕ) (v : Value) → Fits C (length v) → Reaches i (length v) → (r q : Run S) (r′ q′ : Run S′) → Rests (joined (length v) C) r → Rests (joined (length v) C) q
+  follow-branches : (C : ℕ) (v : Value) → Suits C (length v) → Reaches i (length v) → (r q : Run S) (r′ q′ : Run S′) → Rests (joined (length v) C) r → Rests (joined (length v) C) q
       → Follows (joined (length v) C) r r′ → Follows (joined (length v) C) q q′ → Follows C (branches v r q) (branches (lane 0 v i ∷ []) r′ q′)
   unfolding branches joined lane seat on-next
   follow-branches C [] fits here r q r′ q′ rest rest′ h k s = absurd (omega arith)
@@ -182,7 +185,7 @@ module _ {S S′ : Type 0} (i : ℕ) (R : S → S′ → Type 0) where
           full-before (s .state′) (s .budget′) first (q′ one-true (s .budget′) (s .state′)) second (rest-first C v fits here many s r rest e)
           (λ b σ l w. follow-second C v fits here many (on-next s b (s .budget′) σ (s .state′) l w) q q′ k e)
 
-  follow-while-left : (C : ℕ) (v : Value) → Fits C (length v) → Reaches i (length v) → (r : Run S) (r′ : Run S′) → Rests (joined (length v) C) r
+  follow-while-left : (C : ℕ) (v : Value) → Suits C (length v) → Reaches i (length v) → (r : Run S) (r′ : Run S′) → Rests (joined (length v) C) r
       → Follows (joined (length v) C) r r′ → Follows C (while-left v r) (while-left (lane 0 v i ∷ []) r′)
   unfolding while-left joined lane seat
   follow-while-left C [] fits here r r′ rest h s = absurd (omega arith)
@@ -210,12 +213,12 @@ module _ {S S′ : Type 0} (i : ℕ) (R : S → S′ → Type 0) where
   -- The body runs in a context of length B, the tests in D: the loop's own at first, and then B.
   module _ (n B p : ℕ) (here : Reaches i n) (test : (Value → Run S) → Run S) (test′ : (Value → Run S′) → Run S′) (follows : Follow-test n test test′)
       (quiet : (τ : S′) → Quiet-test i (λ σ. R σ τ) n test) (r : Run S) (r′ : Run S′) (rests : Rests B r) (h : Follows B r r′) where
-    follow-loop : (k k′ D : ℕ) → k ≤ k′ → Fits D n → joined n D ≡ B → Follows D (loop k p test r) (loop k′ p test′ r′)
+    follow-loop : (k k′ D : ℕ) → k ≤ k′ → Suits D n → joined n D ≡ B → Follows D (loop k p test r) (loop k′ p test′ r′)
     unfolding loop
     follow-loop zero k′ D g fits e s = tt
     follow-loop (suc k) zero D g fits e s = absurd (omega arith)
     follow-loop (suc k) (suc k′) D g fits e s =
-        let fits′ = fits-body D n B e in
+        let fits′ = suits-body D n B e in
         let same′ = joined-body D n B e in
         follows D (λ v. while-left v (λ m b σ. and-then (r m b σ) (loop k p test r m))) (λ v. while-left v (λ m b τ. and-then (r′ m b τ) (loop k′ p test′ r′ m)))
         (λ v z s. follow-while-left D v (rw z fits) (rw z here) (λ m b σ. and-then (r m b σ) (loop k p test r m)) (λ m b τ. and-then (r′ m b τ) (loop k′ p test′ r′ m))
@@ -232,12 +235,12 @@ module _ {S S′ : Type 0} (Γ : Declarations) (i : ℕ) (all : (x : ℕ) → x 
   abbrev go′ : Program → Run S′
   go′ = run (by get′) effect′
 
-  rests : {C : ℕ} {P : Program} → Sound Γ C P → T (no-alone P) → Reaches i C → Rests i R C (go P)
+  rests : {C : ℕ} {P : Program} → Fits Γ C P → T (no-alone P) → Reaches i C → Rests i R C (go P)
   rests h free here τ = run-quiet Γ i get effect (λ σ. R σ τ) (holds .still τ) all h free here
 
   -- A step that evaluates e, and a test: of the value lane i.
-  module _ {C : ℕ} (here : Reaches i C) {e : Code} {n : ℕ} (has : Has Γ C e n) (p : ℕ) (m : Mask) (z : length m ≡ C) (on : lane false m i ≡ true) where
-    follow-evaluating : Follow-test i R n (evaluating (by get) effect p e m) (evaluating (by get′) effect′ p e one-true)
+  module _ {C : ℕ} (here : Reaches i C) {e : Code} (has : Matched Γ C e) (p : ℕ) (m : Mask) (z : length m ≡ C) (on : lane false m i ≡ true) where
+    follow-evaluating : Follow-test i R (width Γ C e) (evaluating (by get) effect p e m) (evaluating (by get′) effect′ p e one-true)
     unfolding evaluating
     follow-evaluating D k k′ h =
         follow-costs i R D p (λ m′ b σ. k (value e m (get σ)) m′ b σ) (λ m′ b τ. k′ (value e one-true (get′ τ)) m′ b τ)
@@ -245,40 +248,44 @@ module _ {S S′ : Type 0} (Γ : Declarations) (i : ℕ) (all : (x : ℕ) → x 
         rw (rw on at (value-lane m z (get σ) (holds .still τ .sized σ w) i here all (get′ τ) (holds .reads σ τ w) has))
         (h (value e m (get σ)) (value-length m z (get σ) (holds .still τ .sized σ w) has) s))
 
-    follow-testing : Follow-test i R n (testing (by get) effect p e m) (testing (by get′) effect′ p e one-true)
+    follow-testing : Follow-test i R (width Γ C e) (testing (by get) effect p e m) (testing (by get′) effect′ p e one-true)
     unfolding testing on-next
     follow-testing D k k′ h =
         follow-evaluating D (λ v m b σ. k v m b (effect σ (passes p))) (λ v m b τ. k′ v m b (effect′ τ (passes p)))
         (λ v q s. h v q (on-next i R s (s .budget) (s .budget′) (effect (s .state) (passes p)) (effect′ (s .state′) (passes p)) (s .within) (holds .steps (s .state) (s .state′) (s .holds) p)))
 
   -- The narrow run follows.
-  pub run-follows : {C : ℕ} {P : Program} → Sound Γ C P → T (no-alone P) → Reaches i C → Follows i R C (go P) (go′ P)
+  pub run-follows : {C : ℕ} {P : Program} → Fits Γ C P → T (no-alone P) → Reaches i C → Follows i R C (go P) (go′ P)
   unfolding run no-alone
-  run-follows a-nothing free here s = (s .holds, s .within)
-  run-follows {C} (a-step {p = p}) free here s =
+  run-follows fits-nothing free here s = (s .holds, s .within)
+  run-follows {C} (fits-step {p = p}) free here s =
       follow-costs i R C p (λ m b σ. done (effect σ (passes p)) b) (λ m b τ. done (effect′ τ (passes p)) b) (λ s. (holds .steps (s .state) (s .state′) (s .holds) p, s .within)) s
-  run-follows {C} (a-put {p = p} {x = x} {e = e} x-in has to from) free here s =
-      follow-evaluating here has p (s .mask) (s .size) (s .on) C (λ v m b σ. done (effect σ (stores p x m v)) b) (λ v m b τ. done (effect′ τ (stores p x m v)) b)
+  run-follows {C} (fits-put {p = p} {x = x} {e = e} x-in t from to) free here s =
+      follow-evaluating here (t .matched) p (s .mask) (s .size) (s .on) C (λ v m b σ. done (effect σ (stores p x m v)) b) (λ v m b τ. done (effect′ τ (stores p x m v)) b)
       (λ v z s. (holds .writes (s .state) (s .state′) (s .holds) p x (s .mask) v x-in (rw (s .size) from) (rw z to) (s .on), s .within))
       s
-  run-follows {C} (a-both {s = t} {t = u} h k) free here s =
+  run-follows {C} (fits-both {s = t} {t = u} h k) free here s =
       follow-then i R C (go t) (go u) (go′ t) (go′ u)
       (run-follows h (and-l (no-alone t) (no-alone u) free) here) (run-follows k (and-r (no-alone t) (no-alone u) free) here) s
-  run-follows {C} (a-choice {p = p} {n = n} {e = e} {s = t} {t = u} has h k) free here s =
-      let there : Reaches i n = has-reaches i all here has in
+  run-follows {C} (fits-choice {p = p} {e = e} {s = t} {t = u} is h k) free here s =
+      let has = is .matched in
+      let n = width Γ C e in
+      let there : Reaches i n = reaches-width i all here has in
       let body : Reaches i (joined n C) = reaches-joined n C i there here in
       let free-t : T (no-alone t) = and-l (no-alone t) (no-alone u) free in
       let free-u : T (no-alone u) = and-r (no-alone t) (no-alone u) free in
       follow-testing here has p (s .mask) (s .size) (s .on) C (λ v. branches v (go t) (go u)) (λ v. branches v (go′ t) (go′ u))
-      (λ v z s. follow-branches i R C v (rw z (has-fits has)) (rw z there) (go t) (go u) (go′ t) (go′ u)
+      (λ v z s. follow-branches i R C v (rw z (matched-suits has)) (rw z there) (go t) (go u) (go′ t) (go′ u)
       (rw z (rests h free-t body)) (rw z (rests k free-u body)) (rw z (run-follows h free-t body)) (rw z (run-follows k free-u body)) s)
       s
-  run-follows {C} (a-cycle {p = p} {n = n} {e = e} {s = t} has h) free here s =
-      let there : Reaches i n = has-reaches i all here has in
+  run-follows {C} (fits-cycle {p = p} {e = e} {s = t} is h) free here s =
+      let has = is .matched in
+      let n = width Γ C e in
+      let there : Reaches i n = reaches-width i all here has in
       let body : Reaches i (joined n C) = reaches-joined n C i there here in
       follow-loop i R n (joined n C) p there (testing (by get) effect p e (s .mask)) (testing (by get′) effect′ p e one-true)
       (follow-testing here has p (s .mask) (s .size) (s .on))
       (λ τ. quiet-testing Γ i get effect (λ σ. R σ τ) (holds .still τ) all has p (s .mask) (s .size))
       (go t) (go′ t) (rests h free body) (run-follows h free body)
-      (s .budget) (s .budget′) C (s .within) (has-fits has) refl s
-  run-follows (an-alone h) free here s = absurd free
+      (s .budget) (s .budget′) C (s .within) (matched-suits has) refl s
+  run-follows (fits-alone h) free here s = absurd free

@@ -10,15 +10,15 @@ use lib.ListN.{length}
 use Rattle.meaning.specs.Codes.{ok}
 use Rattle.meaning.specs.Program.{Program}
 use Rattle.meaning.specs.Memory.{Memory, Mask, Declarations, declared, need, fetch}
-use Rattle.meaning.specs.Running as R
-use Rattle.meaning.specs.Services.{evaluate, effect, answer, judged, run}
+use Rattle.meaning.specs.Services.{evaluate, effect, answer, judged, program-run, run}
+use Rattle.laws.specs.Declarations.{Ordered}
+use Rattle.laws.specs.Lengths.{Fits}
 use Rattle.lane.specs.Narrow.{narrow}
 use Rattle.lane.specs.Lane.{variables, lane-bytes, Has-lane, Holds-lane}
 use Rattle.lane.specs.Values.{lane}
 use Rattle.lane.proofs.Tests.{or-cases, or-l, or-r}
 use Rattle.lane.proofs.Lanes.{Reaches}
-use Rattle.lane.proofs.Sound.{lanes-of, Sound, no-alone}
-use Rattle.lane.proofs.Declared.{Laid}
+use Rattle.lane.proofs.Programs.{lanes-of, no-alone}
 use Rattle.lane.proofs.Masked.{Leaves, run-quiet}
 use Rattle.lane.proofs.Memories.{Lane-is, still-lane}
 use Rattle.lane.proofs.Fill.{narrow-start}
@@ -26,12 +26,12 @@ use Rattle.lane.proofs.Service.{Ended, Ran-well, ran-well, ended-later,
 use Rattle.lane.proofs.Theorem.{variables-are, answered, all-reach}
 
 -- Under a mask that has lane i off, a program without `scalar` leaves every byte of that lane, also where its budget ends first.
-pub masked-lane-keeps : (i C : ℕ) (P : Program) (Γ : Declarations) → Laid Γ → Sound Γ C P → T (no-alone P) → ((x : ℕ) → x < length Γ → Reaches i (lanes-of Γ x)) → Reaches i C
+pub masked-lane-keeps : {text : List ℕ} (i C : ℕ) (P : Program) (Γ : Declarations) → Ordered text Γ → Fits Γ C P → T (no-alone P) → ((x : ℕ) → x < length Γ → Reaches i (lanes-of Γ x)) → Reaches i C
     → (m : Mask) (budget : ℕ) (M : Memory) → length m ≡ C → lane false m i ≡ false → need Γ ≤ length M
-    → Leaves (Lane-is i Γ (λ x. lane-bytes i (declared Γ x) M)) budget (R.run (evaluate Γ) (effect Γ) P m budget M)
+    → Leaves (Lane-is i Γ (λ x. lane-bytes i (declared Γ x) M)) budget (program-run Γ P m budget M)
 unfolding evaluate
-masked-lane-keeps i C P Γ laid sound free all here m budget M size off room =
-    run-quiet Γ i (fetch Γ) (effect Γ) (Lane-is i Γ (λ x. lane-bytes i (declared Γ x) M)) (still-lane i Γ laid all (λ x. lane-bytes i (declared Γ x) M)) all sound free here
+masked-lane-keeps i C P Γ laid fits free all here m budget M size off room =
+    run-quiet Γ i (fetch Γ) (effect Γ) (Lane-is i Γ (λ x. lane-bytes i (declared Γ x) M)) (still-lane i Γ laid all (λ x. lane-bytes i (declared Γ x) M)) all fits free here
     (record { mask = m; budget = budget; bound = budget; state = M; size = size; off = off; within = omega arith; has = record { long = room; each = λ x h. refl } })
 
 -- A run that ended is the same, to the last number and byte, under a larger budget.
@@ -59,7 +59,7 @@ pub a-start : (text : List ℕ) (i : ℕ) (M : Memory) (P : Program) (Γ : Decla
     → (N : Memory) × (need (variables (narrow text)) ≤ length N) × Holds-lane i text M N
 a-start text i M P Γ e has room =
     let n = judged-narrow text P Γ e in
-    let s = narrow-start i Γ (n .table) (n .paired) (all-reach text P Γ e i has) M room in
+    let s = narrow-start text i Γ (n .table) (n .paired) (all-reach text P Γ e i has) M room in
     let thin = variables-are (narrow text) P (n .table) (n .accepted) in (
       s .0,
       rw thin (s .1 .short),

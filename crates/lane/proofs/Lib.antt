@@ -1,14 +1,12 @@
 pub mod Tests
 pub mod Lanes
-pub mod Sound
+pub mod Programs
 pub mod Values
 pub mod Masked
 pub mod Follow
-pub mod Budget
 pub mod Bytes
 pub mod Declared
 pub mod Memories
-pub mod Both
 pub mod Types
 pub mod Trees
 pub mod Pieces
@@ -18,4 +16,5 @@ pub mod Service
 pub mod Fill
 pub mod Theorem
 pub mod Laws
+pub mod Instances
 pub mod Examples

@@ -11,6 +11,7 @@ use lib.ListN.{length, take, drop}
 use lib.Seq.{length-take-le, take-at}
 use Rattle.meaning.specs.Codes.{if_then_else_, option, lookup, name-limit}
 use Rattle.meaning.specs.Tokens.{bytes, the, signs, numbered, words, marks, space, digit, letter, letter-or-digit, in-line, run-of, starts, equal, decimal, good-number, Piece, over, bad, gap, token, word, digits, sign, piece}
+use Rattle.laws.proofs.Bytes.{run-within}
 use Rattle.lane.proofs.Tests.{and-l, and-r, or-cases, true-of, false-of}
 
 -- Two rests that begin alike: with the same byte, or each with a digit.
@@ -33,15 +34,6 @@ module _ (p : ℕ → Bool) where
       go : (b : Bool) → p c ≡ b → Stops p (drop (run-of p s) s) → Stops p (drop (if b then (λ _. suc (run-of p s)) else λ _. 0) (c ∷ s))
       go true e h = h
       go false e h = rw e tt
-
-  run-le : (s : List ℕ) → run-of p s ≤ length s
-  unfolding run-of
-  run-le [] = omega arith
-  run-le (c ∷ s) = go (p c) (run-le s)
-    where
-      go : (b : Bool) → run-of p s ≤ length s → (if b then (λ _. suc (run-of p s)) else λ _. 0) ≤ suc (length s)
-      go true h = omega arith
-      go false h = omega arith
 
   pub run-none : (r : List ℕ) → Stops p r → run-of p r ≡ 0
   unfolding run-of
@@ -263,7 +255,7 @@ pub record Whole (s : List ℕ) (n : ℕ) : Type 0 where
 whole-space : (c : ℕ) (s : List ℕ) → T (space c) → Whole (c ∷ s) (suc (run-of space s))
 whole-space c s t = record {
   positive = omega arith;
-  within = omega (arith, run-le space s);
+  within = omega (arith, run-within space s);
   before = λ r near. rw (
     piece-space c (take (run-of space s) s ++ r) t,
     piece-space c s t,
@@ -274,7 +266,7 @@ whole-space c s t = record {
 whole-comment : (s : List ℕ) → Whole (47 ∷ 47 ∷ s) (suc (suc (run-of in-line s)))
 whole-comment s = record {
   positive = omega arith;
-  within = omega (arith, run-le in-line s);
+  within = omega (arith, run-within in-line s);
   before = λ r near. rw (
     piece-comment (take (run-of in-line s) s ++ r),
     piece-comment s,
@@ -285,24 +277,24 @@ whole-comment s = record {
 whole-word : (c : ℕ) (s : List ℕ) → T (letter c) → Whole (c ∷ s) (suc (run-of letter-or-digit s))
 whole-word c s t = record {
   positive = omega arith;
-  within = omega (arith, run-le letter-or-digit s);
+  within = omega (arith, run-within letter-or-digit s);
   before = λ r near. let m : ℕ = run-of letter-or-digit s in rw (
     piece-word c (take m s ++ r) t,
     piece-word c s t,
     run-before letter-or-digit s r (near-stops letter-or-digit (λ d d′ u u′. digit-in-word d u ∙ sym (digit-in-word d′ u′)) near (run-stops letter-or-digit s)),
-    take-at (take m s) r m (length-take-le m s (run-le letter-or-digit s)),
+    take-at (take m s) r m (length-take-le m s (run-within letter-or-digit s)),
   );
 }
 
 whole-number : (c : ℕ) (s : List ℕ) → T (digit c) → Whole (c ∷ s) (suc (run-of digit s))
 whole-number c s t = record {
   positive = omega arith;
-  within = omega (arith, run-le digit s);
+  within = omega (arith, run-within digit s);
   before = λ r near. let m : ℕ = run-of digit s in rw (
     piece-number c (take m s ++ r) t,
     piece-number c s t,
     run-before digit s r (near-stops digit (λ d d′ u u′. true-of (digit d) u ∙ sym (true-of (digit d′) u′)) near (run-stops digit s)),
-    take-at (take m s) r m (length-take-le m s (run-le digit s)),
+    take-at (take m s) r m (length-take-le m s (run-within digit s)),
   );
 }
 
@@ -343,10 +335,10 @@ whole-piece s n h = go (sort s) h
     go (a-comment {s = s}) h = subst (λ (n : ℕ). Whole (47 ∷ 47 ∷ s) n) (rw (piece-comment s) at h) (whole-comment s)
     go (a-word {c = c} {s = s} t) h =
         let e : suc (length (take (run-of letter-or-digit s) s)) ≡ n = word-takes (c ∷ take (run-of letter-or-digit s) s) n (rw (piece-word c s t) at h) in
-        subst (λ (n : ℕ). Whole (c ∷ s) n) (ap suc (sym (length-take-le (run-of letter-or-digit s) s (run-le letter-or-digit s))) ∙ e) (whole-word c s t)
+        subst (λ (n : ℕ). Whole (c ∷ s) n) (ap suc (sym (length-take-le (run-of letter-or-digit s) s (run-within letter-or-digit s))) ∙ e) (whole-word c s t)
     go (a-number {c = c} {s = s} t) h =
         let e : suc (length (take (run-of digit s) s)) ≡ n = digits-takes (c ∷ take (run-of digit s) s) n (rw (piece-number c s t) at h) in
-        subst (λ (n : ℕ). Whole (c ∷ s) n) (ap suc (sym (length-take-le (run-of digit s) s (run-le digit s))) ∙ e) (whole-number c s t)
+        subst (λ (n : ℕ). Whole (c ∷ s) n) (ap suc (sym (length-take-le (run-of digit s) s (run-within digit s))) ∙ e) (whole-number c s t)
     go (a-sign {c = c} {s = s} a b d e) h = whole-sign c a d e s n b (rw (piece-other c s a b d e) at h)
 
 -- A value above 1 is that of a number.
@@ -383,7 +375,7 @@ number-digits c s t i v x n e = go (good-number y) e
 
     go : (b : Bool) → (if b then (λ _. token (the "number") (decimal 0 y) [] (length y)) else λ _. bad) ≡ token i v x n → Number (c ∷ s) i x n
     go true e =
-        let size : suc (run-of digit s) ≡ n = ap suc (sym (length-take-le (run-of digit s) s (run-le digit s))) ∙ cc in
+        let size : suc (run-of digit s) ≡ n = ap suc (sym (length-take-le (run-of digit s) s (run-within digit s))) ∙ cc in
         record { is-number = cc; unspelled = cc; begins = λ r. two-digits t tt; stops = subst (λ (n : ℕ). Stops digit (drop n (c ∷ s))) size (run-stops digit s) }
     go false e = let z : _≡_ {A = ℕ} 0 1 = cc in absurd (omega arith)
 

@@ -2,12 +2,11 @@
 use mathlib.Core.Path.{_≡_, refl, sym, ap, _∙_, subst}
 use mathlib.Core.Bool.{Bool, true, false, not}
 use mathlib.Core.List.{List, [], _∷_, map}
-use Prim.Native.Nat.{ℕ, _+_, _-_, _≤_, _<_}
+use Prim.Native.Nat.{ℕ, _+_, _-_, _≤_}
 use native.Mathlib.Omega.{arith}
 use lib.Dec.{T, leb, leb→le, le→leb}
 use lib.ListN.{length}
-use Rattle.meaning.specs.declared.Refusal.{Refusal}
-use Rattle.meaning.specs.declared.Refusal.the-variants.{TextTooLong, BadBytes, NotAllowed, TooDeep, UnknownName, AlreadyOpen, LengthNotListed, WrongKind, WrongLength, LengthOneTarget, TooManyDeclarations, MemoryTooShort, BudgetSpent}
+use Rattle.meaning.specs.declared.Refusal.the-variants.{MemoryTooShort}
 use Rattle.meaning.specs.Codes.{code, Out, ok, refused, if_then_else_, _among_}
 use Rattle.meaning.specs.Tokens.{Token, the, lexed}
 use Rattle.meaning.specs.Tree.{Stmts}
@@ -15,41 +14,28 @@ use Rattle.meaning.specs.Reading.{read}
 use Rattle.meaning.specs.Program.{Program}
 use Rattle.meaning.specs.Typing.{typed-program}
 use Rattle.meaning.specs.Memory.{Memory, Declarations, need}
-use Rattle.meaning.specs.Running as R
 use Rattle.meaning.specs.Running.{Ran, stopped, done}
-use Rattle.meaning.specs.Services.{Answer, answer, pass, judged, evaluate, effect, ended, executed, run}
+use Rattle.meaning.specs.Services.{Answer, answer, pass, judged, evaluate, effect, ended, program-run, executed, run}
+use Rattle.laws.specs.Outcomes.{Gave}
+use Rattle.laws.specs.Lengths.{Fits}
+use Rattle.laws.proofs.Outcomes.{said}
+use Rattle.laws.proofs.Codes.{some-code}
+use Rattle.laws.proofs.Budget.{Richer, run-same}
+use Rattle.laws.proofs.Accepted.{accepted-ready}
 use Rattle.lane.specs.Narrow.{narrow}
 use Rattle.lane.specs.Lane.{kinds-in, scalar-free}
 use Rattle.lane.specs.NarrowTree.{narrow-tokens, narrow-stmts, Narrows, Narrowing}
 use Rattle.lane.proofs.Tests.{true-of}
-use Rattle.lane.proofs.Budget.{Richer, run-same}
-use Rattle.lane.proofs.Sound.{Sound, no-alone}
+use Rattle.lane.proofs.Programs.{no-alone}
 use Rattle.lane.proofs.Declared.{Paired}
-use Rattle.lane.proofs.Both.{Gave, both-gave}
 use Rattle.lane.proofs.Types.{Accepted, program-both}
 use Rattle.lane.proofs.Trees.{reading-read}
 use Rattle.lane.proofs.Texts.{length-narrow, lexed-narrow}
 use Rattle.lane.proofs.Scalars.{free-program}
 
--- No refusal has code 0.
-code-positive : (c : Refusal) → 0 < code c
-code-positive TextTooLong = omega arith
-code-positive BadBytes = omega arith
-code-positive NotAllowed = omega arith
-code-positive TooDeep = omega arith
-code-positive UnknownName = omega arith
-code-positive AlreadyOpen = omega arith
-code-positive LengthNotListed = omega arith
-code-positive WrongKind = omega arith
-code-positive WrongLength = omega arith
-code-positive LengthOneTarget = omega arith
-code-positive TooManyDeclarations = omega arith
-code-positive MemoryTooShort = omega arith
-code-positive BudgetSpent = omega arith
-
 -- The run of a program over bytes, from one true lane.
 abbrev pub ran : Program → Declarations → ℕ → Memory → Ran Memory
-ran P Γ budget M = R.run (evaluate Γ) (effect Γ) P (true ∷ []) budget M
+ran P Γ budget M = program-run Γ P (true ∷ []) budget M
 
 -- Code 0: accepted, room enough, and ended with some steps left.
 pub record Ended (P : Program) (Γ : Declarations) (budget : ℕ) (M : Memory) : Type 0 where
@@ -64,12 +50,12 @@ pub record Ran-well (o : Out Declarations Program) (budget : ℕ) (M : Memory) :
   pub accepted : o ≡ ok what where-to
   pub ended-well : Ended what where-to budget M
 
-ended-of : (P : Program) (Γ : Declarations) (budget : ℕ) (M : Memory) → (executed M budget (ok P Γ)) .0 .code ≡ 0 → Ended P Γ budget M
+ended-of : (P : Program) (Γ : Declarations) (budget : ℕ) (M : Memory) → (executed program-run M budget (ok P Γ)) .0 .code ≡ 0 → Ended P Γ budget M
 unfolding executed ended answer
 ended-of P Γ budget M e = room (leb (need Γ) (length M)) refl e
   where
     ends : (r : Ran Memory) → ran P Γ budget M ≡ r → need Γ ≤ length M → (ended (need Γ) budget r) .0 .code ≡ 0 → Ended P Γ budget M
-    ends (stopped c p M′ b) z l e = absurd (omega (arith, code-positive c))
+    ends (stopped c p M′ b) z l e = absurd (omega (arith, some-code c))
     ends (done M′ left) z l e = record { room = l; end = M′; left = left; is = z }
 
     room : (b : Bool) → leb (need Γ) (length M) ≡ b
@@ -77,18 +63,18 @@ ended-of P Γ budget M e = room (leb (need Γ) (length M)) refl e
     room true z e = ends (ran P Γ budget M) refl (leb→le (need Γ) (length M) (rw z tt)) e
     room false z e = absurd (omega arith)
 
-executed-well : (o : Out Declarations Program) (budget : ℕ) (M : Memory) → (executed M budget o) .0 .code ≡ 0 → Ran-well o budget M
+executed-well : (o : Out Declarations Program) (budget : ℕ) (M : Memory) → (executed program-run M budget o) .0 .code ≡ 0 → Ran-well o budget M
 unfolding executed answer
 executed-well (ok P Γ) budget M e = record { what = P; where-to = Γ; accepted = refl; ended-well = ended-of P Γ budget M e }
-executed-well (refused c p) budget M e = absurd (omega (arith, code-positive c))
+executed-well (refused c p) budget M e = absurd (omega (arith, some-code c))
 
 -- `run` is `executed` of what is judged.
-pub run-is : (text : List ℕ) (M : Memory) (budget : ℕ) → run text M budget ≡ executed M budget (judged text)
+pub run-is : (text : List ℕ) (M : Memory) (budget : ℕ) → run text M budget ≡ executed program-run M budget (judged text)
 unfolding run
 run-is text M budget = refl
 
-code-is : (text : List ℕ) (M : Memory) (budget : ℕ) (o : Out Declarations Program) → judged text ≡ o → (run text M budget) .0 .code ≡ 0 → (executed M budget o) .0 .code ≡ 0
-code-is text M budget o e code = sym (ap (λ (r : Answer × Memory). r .0 .code) (run-is text M budget ∙ ap (executed M budget) e)) ∙ code
+code-is : (text : List ℕ) (M : Memory) (budget : ℕ) (o : Out Declarations Program) → judged text ≡ o → (run text M budget) .0 .code ≡ 0 → (executed program-run M budget o) .0 .code ≡ 0
+code-is text M budget o e code = sym (ap (λ (r : Answer × Memory). r .0 .code) (run-is text M budget ∙ ap (executed program-run M budget) e)) ∙ code
 
 pub ran-well : (text : List ℕ) (M : Memory) (budget : ℕ) → (run text M budget) .0 .code ≡ 0 → Ran-well (judged text) budget M
 ran-well text M budget code = executed-well (judged text) budget M (code-is text M budget (judged text) refl code)
@@ -103,7 +89,7 @@ ended-later {P} {Γ} {budget} {M} more w =
     subst (λ (r : Ran Memory). Richer more r (ran P Γ (budget + more) M)) (w .is) (run-same more (evaluate Γ) (effect Γ) P (true ∷ []) budget M)
 
 -- And what is answered then.
-pub executed-is : {P : Program} {Γ : Declarations} {budget : ℕ} {M : Memory} (w : Ended P Γ budget M) → executed M budget (ok P Γ) ≡ (answer 0 0 (need Γ) (budget - w .left), w .end)
+pub executed-is : {P : Program} {Γ : Declarations} {budget : ℕ} {M : Memory} (w : Ended P Γ budget M) → executed program-run M budget (ok P Γ) ≡ (answer 0 0 (need Γ) (budget - w .left), w .end)
 unfolding executed ended
 executed-is {P} {Γ} {budget} {M} w = rw (true-of (leb (need Γ) (length M)) (le→leb (need Γ) (length M) (w .room)), w .is)
 
@@ -114,9 +100,9 @@ judged-is text = refl
 
 -- What a narrowed text is.
 pub narrowing : Narrowing
-narrowing text ts q l p P Γ y z e = go (both-gave l p z (reading-read ts)) (both-gave P Γ e (program-both l))
+narrowing text ts q l p P Γ y z e = go (said (reading-read ts) z) (said (program-both l) e)
   where
-    go : Gave (λ l p l′ p′. l′ ≡ narrow-stmts l) l p (read (narrow-tokens (the "end") (the "end") ts)) → Gave (Accepted 1 []) P Γ (typed-program (narrow-stmts l)) → Narrows text ts l P Γ
+    go : Gave (λ l p l′ p′. l′ ≡ narrow-stmts l) (read (narrow-tokens (the "end") (the "end") ts)) l p → Gave Accepted (typed-program (narrow-stmts l)) P Γ → Narrows text ts l P Γ
     go r t = record {
       as-long = length-narrow text;
       end = q;
@@ -125,15 +111,15 @@ narrowing text ts q l p P Γ y z e = go (both-gave l p z (reading-read ts)) (bot
       has-tree = r .is ∙ ap (λ (l : Stmts). ok l (r .state)) (r .so);
       table = t .state;
       same-program = t .is ∙ ap (λ (P : Program). ok P (t .state)) (t .so .same-program);
-      thinned = t .so .paired .thin;
+      thinned = t .so .thin;
     }
 
 -- An accepted text narrows to an accepted text of the same program.
 pub record Narrowed (text : List ℕ) (P : Program) (Γ : Declarations) : Type 0 where
   pub table : Declarations
   pub accepted : judged (narrow text) ≡ ok P table
-  pub paired : Paired Γ table
-  pub sound : Sound Γ 1 P
+  pub paired : Paired text Γ table
+  pub fits : Fits Γ 1 P
   pub free : T (scalar-free text) → T (no-alone P)
 
 -- A text without `scalar` has no such token.
@@ -145,18 +131,20 @@ pub judged-narrow : (text : List ℕ) (P : Program) (Γ : Declarations) → judg
 unfolding pass
 judged-narrow text P Γ e = lex (lexed text) refl (sym (judged-is text) ∙ e)
   where
-    both-typed : (ts : List Token) (q : ℕ) → lexed text ≡ ok ts q → (l : Stmts) (p : ℕ) → read ts ≡ ok l p → typed-program l ≡ ok P Γ → Gave (Accepted 1 []) P Γ (typed-program (narrow-stmts l))
-        → Narrows text ts l P Γ → Narrowed text P Γ
-    both-typed ts q y l p z e t n = record {
-      table = t .state;
-      accepted = judged-is (narrow text) ∙ rw (n .has-tokens, n .has-tree, t .is, t .so .same-program);
-      paired = t .so .paired;
-      sound = t .so .sound;
-      free = λ h. free-program ts (free-tokens text ts q y h) l p z P Γ e;
-    }
+    over : (ts : List Token) (q : ℕ) → lexed text ≡ ok ts q → (l : Stmts) (p : ℕ) → read ts ≡ ok l p → typed-program l ≡ ok P Γ → Narrows text ts l P Γ → Narrowed text P Γ
+    over ts q y l p z t n =
+        let is : judged (narrow text) ≡ ok P (n .table) = judged-is (narrow text) ∙ rw (n .has-tokens, n .has-tree, n .same-program) in
+        let ready = accepted-ready text e in
+        record {
+          table = n .table;
+          accepted = is;
+          paired = record { thin = n .thinned; laid = ready .ordered; laid′ = accepted-ready (narrow text) is .ordered };
+          fits = ready .fits;
+          free = λ h. free-program ts (free-tokens text ts q y h) l p z P Γ t;
+        }
 
     parse : (ts : List Token) (q : ℕ) → lexed text ≡ ok ts q → (o : Out ℕ Stmts) → read ts ≡ o → pass o typed-program ≡ ok P Γ → Narrowed text P Γ
-    parse ts q y (ok l p) z e = both-typed ts q y l p z e (both-gave P Γ e (program-both l)) (narrowing text ts q l p P Γ y z e)
+    parse ts q y (ok l p) z t = over ts q y l p z t (narrowing text ts q l p P Γ y z t)
     parse ts q y (refused c p) z e = let n : _≡_ {A = ℕ} 0 1 = cc in absurd (omega arith)
 
     lex : (o : Out ℕ (List Token)) → lexed text ≡ o → pass o (λ ts. pass (read ts) typed-program) ≡ ok P Γ → Narrowed text P Γ

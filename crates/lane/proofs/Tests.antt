@@ -13,6 +13,10 @@ pub and-r : (a b : Bool) → T (a && b) → T b
 and-r true b t = t
 and-r false b t = absurd t
 
+pub and-both : (a b : Bool) → T a → T b → T (a && b)
+and-both true b t u = u
+and-both false b t u = absurd t
+
 pub false-and : (a b : Bool) → a ≡ false → a && b ≡ false
 false-and a b e = rw e
 

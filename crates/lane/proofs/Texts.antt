@@ -111,7 +111,7 @@ spaces-before {q} {ts} p (suc k) r t =
 
 -- A `1` that no digit follows.
 piece-one : (u : List ℕ) → Stops digit u → piece (49 ∷ u) ≡ token (the "number") 1 [] 1
-unfolding digits good-number decimal number-limit digit
+unfolding digits good-number decimal digit
 piece-one u h = piece-number 49 u tt ∙ rw (run-none digit u h)
 
 -- The narrowed bytes begin alike, and are as many.

@@ -10,13 +10,14 @@ use Rattle.meaning.specs.Codes.{ok}
 use Rattle.meaning.specs.Program.{Program}
 use Rattle.meaning.specs.Memory.{Memory, Declarations, declared, need, fetch}
 use Rattle.meaning.specs.Running.{Ran, stopped, done}
-use Rattle.meaning.specs.Services.{Answer, answer, judged, evaluate, effect, executed, run}
+use Rattle.meaning.specs.Services.{Answer, answer, judged, evaluate, effect, program-run, executed, run}
+use Rattle.laws.specs.Lengths.{Fits}
 use Rattle.lane.specs.Narrow.{narrow}
 use Rattle.lane.specs.Lane.{variables-in, variables, seat, lane-bytes, Has-lane, Holds-lane, Follows-lane, One-lane, Same-lane, No-leak}
 use Rattle.lane.specs.Values.{lane}
 use Rattle.lane.proofs.Tests.{or-cases, Order, below, same, above, order}
 use Rattle.lane.proofs.Lanes.{Reaches, reaches-one, reaches-below}
-use Rattle.lane.proofs.Sound.{lanes-of, Sound, no-alone}
+use Rattle.lane.proofs.Programs.{lanes-of, no-alone}
 use Rattle.lane.proofs.Declared.{Paired}
 use Rattle.lane.proofs.Follow.{Followed, one-true, run-follows}
 use Rattle.lane.proofs.Memories.{Agree, memory-holds}
@@ -37,13 +38,13 @@ record Followed-by (i : ℕ) (P : Program) (Γ Δ : Declarations) (budget : ℕ)
   left-over : w .left ≤ ended .left
   agree : Agree i Γ Δ (w .end) (ended .end)
 
-module _ (i : ℕ) (P : Program) (Γ Δ : Declarations) (pair : Paired Γ Δ) (sound : Sound Γ 1 P) (free : T (no-alone P)) (all : (x : ℕ) → x < length Γ → Reaches i (lanes-of Γ x)) where
+module _ (text : List ℕ) (i : ℕ) (P : Program) (Γ Δ : Declarations) (pair : Paired text Γ Δ) (fits : Fits Γ 1 P) (free : T (no-alone P)) (all : (x : ℕ) → x < length Γ → Reaches i (lanes-of Γ x)) where
   follow-program : (budget : ℕ) (M N : Memory) (w : Ended P Γ budget M) → Agree i Γ Δ M N → Followed-by i P Γ Δ budget M N w
   unfolding evaluate
   follow-program budget M N w a =
       go (ran P Δ budget N) refl
       (subst (λ (r : Ran Memory). Followed (Agree i Γ Δ) r (ran P Δ budget N)) (w .is)
-      (run-follows Γ i all (fetch Γ) (effect Γ) (fetch Δ) (effect Δ) (Agree i Γ Δ) (memory-holds i Γ Δ (pair .laid) (pair .laid′) (pair .thin) all) sound free (reaches-one i)
+      (run-follows Γ i all (fetch Γ) (effect Γ) (fetch Δ) (effect Δ) (Agree i Γ Δ) (memory-holds text i Γ Δ pair all) fits free (reaches-one i)
       (record { mask = one-true; budget = budget; budget′ = budget; state = M; state′ = N; size = refl; on = first-lane i; within = omega arith; holds = a })))
     where
       go : (r : Ran Memory) → ran P Δ budget N ≡ r → Followed (Agree i Γ Δ) (done (w .end) (w .left)) r → Followed-by i P Γ Δ budget M N w
@@ -57,7 +58,7 @@ module _ (text : List ℕ) (P : Program) (Γ : Declarations) (e : judged text �
   variables-are = ap variables-in e
 
   pub answered : (budget : ℕ) (M : Memory) (w : Ended P Γ budget M) → run text M budget ≡ (answer 0 0 (need Γ) (budget - w .left), w .end)
-  answered budget M w = run-is text M budget ∙ ap (executed M budget) e ∙ executed-is w
+  answered budget M w = run-is text M budget ∙ ap (executed program-run M budget) e ∙ executed-is w
 
   pub all-reach : (i : ℕ) → Has-lane i text → (x : ℕ) → x < length Γ → Reaches i (lanes-of Γ x)
   all-reach i h x l = reaches-lane i (lanes-of Γ x) (rw variables-are at (h .each x (rw variables-are l)))
@@ -92,7 +93,7 @@ one-lane text i budget M N free has code room holds = go (ran-well text M budget
         let w = r .ended-well in
         let n = judged-narrow text P Γ e in
         leaves text i budget M N P Γ (n .table) e (n .accepted) w
-        (follow-program i P Γ (n .table) (n .paired) (n .sound) (n .free free) (all-reach text P Γ e i has) budget M N w
+        (follow-program text i P Γ (n .table) (n .paired) (n .fits) (n .free free) (all-reach text P Γ e i has) budget M N w
         (starts text i budget M N P Γ (n .table) e (n .accepted) w room holds))
 
 -- Two runs of one program over one memory that both end, end alike.
@@ -121,15 +122,15 @@ no-leak text i b b′ M M′ free has code code′ alike = go (ran-well text M b
         let n = judged-narrow text P Γ e in
         let Δ = n .table in
         let all = all-reach text P Γ e i has in
-        let start = narrow-start i Γ Δ (n .paired) all M (w .room) in
+        let start = narrow-start text i Γ Δ (n .paired) all M (w .room) in
         let N = start .0 in
         let a : Agree i Γ Δ M N = start .1 in
         let a′ : Agree i Γ Δ M′ N = record {
           full = record { long = w′ .room; each = λ x l. sym (rw (variables-are text P Γ e) at (alike .each x (rw (variables-are text P Γ e) l))) ∙ a .full .each x l };
           short = a .short;
         } in
-        let f = follow-program i P Γ Δ (n .paired) (n .sound) (n .free free) all b M N w a in
-        let f′ = follow-program i P Γ Δ (n .paired) (n .sound) (n .free free) all b′ M′ N w′ a′ in
+        let f = follow-program text i P Γ Δ (n .paired) (n .fits) (n .free free) all b M N w a in
+        let f′ = follow-program text i P Γ Δ (n .paired) (n .fits) (n .free free) all b′ M′ N w′ a′ in
         record {
           each = λ x l. let k : x < length Γ = rw (variables-are text P Γ e) at l in
               rw (answered text P Γ e b M w, answered text P Γ e b′ M′ w′, variables-are text P Γ e)

@@ -15,11 +15,15 @@ use Rattle.meaning.specs.declared.Refusal.the-variants.{NotAllowed}
 use Rattle.meaning.specs.Codes.{Out, _>>=_, _>>_, give, refuse, repeat, option, lookup, if_then_else_, _among_, nesting-limit}
 use Rattle.meaning.specs.Tokens.{Token, end-at, the, words, marks, numbered, reserved, signs}
 use Rattle.meaning.specs.Tree as M
-use Rattle.meaning.specs.Tree.{neg, inv, not, Binary, or, xor, and, eq, ne, lt, gt, le, ge, add, sub, mul, table, unary-table, levels, Expr, number, boolean, name, current-mask, unary, binary, Block, Stmt, empty, braces, declare, assign, if-else, while, scalar, Stmts, none-yet, _⨾_}
+use Rattle.meaning.specs.declared.Unary.the-variants.{Neg as neg, Inv as inv, Not as not}
+use Rattle.meaning.specs.declared.Binary.{Binary}
+use Rattle.meaning.specs.declared.Binary.the-variants.{Or as or, Xor as xor, And as and, Eq as eq, Ne as ne, Lt as lt, Gt as gt, Le as le, Ge as ge, Add as add, Sub as sub, Mul as mul}
+use Rattle.meaning.specs.Tree.{table, unary-table, levels, Expr, number, boolean, name, current-mask, unary, binary, Block, Stmt, empty, braces, declare, assign, if-else, while, scalar, Stmts, none-yet, _⨾_}
 use Rattle.meaning.specs.Reading.{Reads, After, _⇒_, operator, begins, look, next, choose, expect, as-long, more, binaries, operand, no-room, closed, unaries, expression, parenthesised, block, declaration, assignment, condition, opening, another, sequence, statement-over, statement, read}
+use Rattle.laws.specs.Outcomes.{refusal, Beside}
+use Rattle.laws.proofs.Outcomes.{both-well, both-followed, both-weaker, both-passed}
 use Rattle.lane.specs.Narrow.{is-block}
 use Rattle.lane.specs.NarrowTree.{narrow-length, narrow-token, narrow-tokens, narrow-block, narrow-stmt, narrow-stmts}
-use Rattle.lane.proofs.Both.{Both, refusal, accept, both-after, both-weaken, both-check}
 
 -- What a token is stays; and all of it, unless it stands after `[`.
 module _ (j k : ℕ) (t : Token) where
@@ -129,14 +133,14 @@ module _ (ts : List Token) where
     clear : Clear p
 
   abbrev Reading : {A : Type 0} → (A → A) → Reads A → Reads A → Type 0
-  Reading g m m′ = (at : ℕ) → Clear at → Both (Read g) (m at) (m′ at)
+  Reading g m m′ = (at : ℕ) → Clear at → Beside (Read g) (m at) (m′ at)
 
   module _ {A B : Type 0} {g : A → A} {h : B → B} where
     reading-then : (m m′ : Reads A) (f f′ : A → Reads B) → Reading g m m′ → ((a : A) → Reading h (f a) (f′ (g a))) → Reading h (m >>= f) (m′ >>= f′)
-    reading-then m m′ f f′ r k at c = both-after f f′ (r at c) (λ a p a′ p′ q. rw (q .value, q .place) (k a p (q .clear)))
+    reading-then m m′ f f′ r k at c = both-followed f f′ (r at c) (λ a p a′ p′ q. rw (q .value, q .place) (k a p (q .clear)))
 
   reading-give : {A : Type 0} (g : A → A) (a : A) → Reading g (give a) (give (g a))
-  reading-give g a at c = accept (record { value = refl; place = refl; clear = c })
+  reading-give g a at c = both-well (record { value = refl; place = refl; clear = c })
 
   -- The cases of a choice, none of which is `[`.
   data Cases {A : Type 0} (g : A → A) : List (ℕ × After A) → List (ℕ × After A) → Type 0 where
@@ -155,13 +159,13 @@ module _ (ts : List Token) where
       t = full-at at
 
       pick : (n : ℕ) (k k′ : After A) (l l′ : List (ℕ × After A)) → T (B.not (eqb n (the "["))) → ((t : Token) → Reading g (k t) (k′ t))
-          → Both (Read g) (at-token ts at t (lookup (eqb (t .is)) l)) (at-token thin at t (lookup (eqb (t .is)) l′)) → (b : Bool) → eqb (t .is) n ≡ b
-          → Both (Read g) (at-token ts at t (if b then (λ _. some k) else λ _. lookup (eqb (t .is)) l)) (at-token thin at t (if b then (λ _. some k′) else λ _. lookup (eqb (t .is)) l′))
+          → Beside (Read g) (at-token ts at t (lookup (eqb (t .is)) l)) (at-token thin at t (lookup (eqb (t .is)) l′)) → (b : Bool) → eqb (t .is) n ≡ b
+          → Beside (Read g) (at-token ts at t (if b then (λ _. some k) else λ _. lookup (eqb (t .is)) l)) (at-token thin at t (if b then (λ _. some k′) else λ _. lookup (eqb (t .is)) l′))
       pick n k k′ l l′ other h r true e = h t (suc at) (rw (eqb→eq (t .is) n (rw e tt)) other)
       pick n k k′ l l′ other h r false e = r
 
-      go : {l l′ : List (ℕ × After A)} → Cases g l l′ → Both (Read g) (at-token ts at t (lookup (eqb (t .is)) l)) (at-token thin at t (lookup (eqb (t .is)) l′))
-      go no-case = refusal
+      go : {l l′ : List (ℕ × After A)} → Cases g l l′ → Beside (Read g) (at-token ts at t (lookup (eqb (t .is)) l)) (at-token thin at t (lookup (eqb (t .is)) l′))
+      go no-case = refusal tt
       go (case {n = n} {k = k} {k′ = k′} {l = l} {l′ = l′} other h cs) = pick n k k′ l l′ other h (go cs) (eqb (t .is) n) refl
 
   reading-expect : (s : String) → T (B.not (eqb (the s) (the "["))) → Reading (λ t. t) (expect ts s) (expect thin s)
@@ -196,10 +200,10 @@ module _ (ts : List Token) where
       t : Token
       t = full-at at
 
-      go : (o : Option Binary) → operator (t .is) os ≡ o → Both (Read (map-option (λ e. e)))
+      go : (o : Option Binary) → operator (t .is) os ≡ o → Beside (Read (map-option (λ e. e)))
           (option (give none) (λ o. do next ts; e′ ← m; give (some (binary (t .place) o e e′))) o at)
           (option (give none) (λ o. do next thin; e′ ← m′; give (some (binary (t .place) o e e′))) o at)
-      go none z = accept (record { value = refl; place = refl; clear = c })
+      go none z = both-well (record { value = refl; place = refl; clear = c })
       go (some o) z = reading-then m m′ _ _ h (λ e′. reading-give (map-option (λ e. e)) (some (binary (t .place) o e e′))) (suc at) (operator-other (t .is) os o z)
 
   reading-binaries : (ls : List (List Binary)) (m m′ : Reads Expr) → Expressions m m′ → Expressions (binaries ts ls m) (binaries thin ls m′)
@@ -224,7 +228,7 @@ module _ (ts : List Token) where
 
   reading-no-room : {A : Type 0} (g : A → A) (t : Token) → Reading g (no-room ts t) (no-room thin t)
   unfolding no-room
-  reading-no-room g t at c = refusal
+  reading-no-room g t at c = refusal tt
 
   reading-closed : (m m′ : Reads Expr) → Expressions m m′ → (t : Token) → Expressions (closed ts m t) (closed thin m′ t)
   unfolding closed the words marks numbered reserved signs
@@ -256,14 +260,14 @@ module _ (ts : List Token) where
     past′ : p′ ≡ suc at
     sort : (full-at at) .is ≡ the s
 
-  reading-taken : (s : String) (at : ℕ) → Both (Taken s at) (expect ts s at) (expect thin s at)
+  reading-taken : (s : String) (at : ℕ) → Beside (Taken s at) (expect ts s at) (expect thin s at)
   unfolding expect choose look next _⇒_
   reading-taken s at = rw (is-at at) (go (eqb ((full-at at) .is) (the s)) refl)
     where
       go : (b : Bool) → eqb ((full-at at) .is) (the s) ≡ b
-          → Both (Taken s at) (at-token ts at (full-at at) (if b then (λ _. some give) else λ _. none)) (at-token thin at (thin-at at) (if b then (λ _. some give) else λ _. none))
-      go true e = accept (record { this = refl; this′ = refl; past = refl; past′ = refl; sort = eqb→eq ((full-at at) .is) (the s) (rw e tt) })
-      go false e = refusal
+          → Beside (Taken s at) (at-token ts at (full-at at) (if b then (λ _. some give) else λ _. none)) (at-token thin at (thin-at at) (if b then (λ _. some give) else λ _. none))
+      go true e = both-well (record { this = refl; this′ = refl; past = refl; past′ = refl; sort = eqb→eq ((full-at at) .is) (the s) (rw e tt) })
+      go false e = refusal tt
 
   -- N in `block[N]` is narrowed.
   block-at : (at : ℕ) → (full-at at) .is ≡ the "block" → (full-at (suc at)) .is ≡ the "["
@@ -278,16 +282,16 @@ module _ (ts : List Token) where
       either : List Token → Bool → Reads Block
       either us b = if b then (λ _. do next us; expect us "["; n ← expect us "number"; expect us "]"; give (some (n .value, n .place))) else λ _. give none
 
-      go : (b : Bool) → eqb ((full-at at) .is) (the "block") ≡ b → Both (Read narrow-block) (either ts b at) (either thin b at)
+      go : (b : Bool) → eqb ((full-at at) .is) (the "block") ≡ b → Beside (Read narrow-block) (either ts b at) (either thin b at)
       go true e =
           let e₀ = eqb→eq ((full-at at) .is) (the "block") (rw e tt) in
-          both-after _ _ (reading-taken "[" (suc at))
-          (λ t p t′ p′ q. rw (q .past, q .past′) (both-after _ _ (reading-taken "number" (suc (suc at)))
-          (λ n p n′ p′ r. rw (r .past, r .past′) (both-after _ _ (reading-taken "]" (suc (suc (suc at))))
+          both-followed _ _ (reading-taken "[" (suc at))
+          (λ t p t′ p′ q. rw (q .past, q .past′) (both-followed _ _ (reading-taken "number" (suc (suc at)))
+          (λ n p n′ p′ r. rw (r .past, r .past′) (both-followed _ _ (reading-taken "]" (suc (suc (suc at))))
           (λ u p u′ p′ w. let v : _≡_ {A = Block} (some (n′ .value, n′ .place)) (narrow-block (some (n .value, n .place))) = rw (r .this′, block-at at e₀ (q .sort), r .this) in
           let z : Clear (suc (suc (suc (suc at)))) = rw (w .sort) bracket-closes in
-          rw (w .past, w .past′) (accept (record { value = v; place = refl; clear = z })))))))
-      go false e = accept (record { value = refl; place = refl; clear = c })
+          rw (w .past, w .past′) (both-well (record { value = v; place = refl; clear = z })))))))
+      go false e = both-well (record { value = refl; place = refl; clear = c })
 
   -- Statements are narrowed.
   abbrev Statements : Reads Stmt → Reads Stmt → Type 0
@@ -316,7 +320,7 @@ module _ (ts : List Token) where
   reading-opening : (deep deep′ : After Stmt) → ((t : Token) → Statements (deep t) (deep′ t)) → Statements (opening ts deep) (opening thin deep′)
   unfolding opening look
   reading-opening deep deep′ h at c =
-      rw (clear-at at c) (both-check ((full-at at) .is among begins) ((full-at at) .is among begins) NotAllowed ((full-at at) .place) _ _ at at (λ t. t) (λ t. h (full-at at) at c))
+      rw (clear-at at c) (both-passed ((full-at at) .is among begins) ((full-at at) .is among begins) NotAllowed ((full-at at) .place) at at _ _ (λ t. t) (λ t. h (full-at at) at c))
 
   reading-another : (close : String) (m m′ : Reads Stmt) → Statements m m′ → (l : Stmts) → Reading (map-option narrow-stmts) (another ts close m l) (another thin close m′ (narrow-stmts l))
   unfolding another look narrow-stmts
@@ -325,8 +329,8 @@ module _ (ts : List Token) where
       either : Stmts → Reads Stmt → Bool → Reads (Option Stmts)
       either l m b = if b then (λ _. give none) else λ _. do s ← m; give (some (l ⨾ s))
 
-      go : (b : Bool) → Both (Read (map-option narrow-stmts)) (either l m b at) (either (narrow-stmts l) m′ b at)
-      go true = accept (record { value = refl; place = refl; clear = c })
+      go : (b : Bool) → Beside (Read (map-option narrow-stmts)) (either l m b at) (either (narrow-stmts l) m′ b at)
+      go true = both-well (record { value = refl; place = refl; clear = c })
       go false = reading-then m m′ _ _ h (λ s. reading-give (map-option narrow-stmts) (some (l ⨾ s))) at c
 
   reading-sequence : (close : String) → T (B.not (eqb (the close) (the "["))) → (m m′ : Reads Stmt) → Statements m m′ → Reading narrow-stmts (sequence ts close m) (sequence thin close m′)
@@ -362,6 +366,6 @@ module _ (ts : List Token) where
   reading-statement (suc r) = reading-statement-over (suc r) _ _ _ _ (λ t. reading-statement r) (λ t. reading-sequence "}" tt _ _ (reading-statement r))
 
   -- The tree of the narrowed tokens is the narrowed tree.
-  pub reading-read : Both (λ l p l′ p′. l′ ≡ narrow-stmts l) (read ts) (read thin)
+  pub reading-read : Beside (λ l p l′ p′. l′ ≡ narrow-stmts l) (read ts) (read thin)
   unfolding read
-  reading-read = both-weaken (reading-sequence "end" tt (statement ts nesting-limit) (statement thin nesting-limit) (reading-statement nesting-limit) zero tt) (λ l p l′ p′ q. q .value)
+  reading-read = both-weaker (reading-sequence "end" tt (statement ts nesting-limit) (statement thin nesting-limit) (reading-statement nesting-limit) zero tt) (λ l p l′ p′ q. q .value)

@@ -41,9 +41,13 @@ unfoldable pub lane-bytes : ℕ → Declared → Memory → List ℕ
 unfolding seat size
 lane-bytes i d M = take (size (d .kind)) (drop (d .address + seat (d .lanes) i * size (d .kind)) M)
 
+-- Is a variable a scalar, or has it a lane i?
+abbrev pub reaches : ℕ → Declared → Bool
+reaches i d = eqb (d .lanes) 1 || ltb i (d .lanes)
+
 -- Every variable of a text is a scalar or has a lane i.
 pub record Has-lane (i : ℕ) (text : List ℕ) : Type 0 where
-  pub each : (x : ℕ) → x < length (variables text) → T (eqb ((declared (variables text) x) .lanes) 1 || ltb i ((declared (variables text) x) .lanes))
+  pub each : (x : ℕ) → x < length (variables text) → T (reaches i (declared (variables text) x))
 
 -- A memory N of the narrowed text holds lane i of a memory M of the text: variable by variable, the bytes are the same.
 pub record Holds-lane (i : ℕ) (text : List ℕ) (M N : Memory) : Type 0 where

@@ -1,149 +1,114 @@
 -- What the definitions answer, by the code: the sentences under document 01's table of codes.
 use Prim.Native.Nat.{ℕ, _-_, _≤_}
-use mathlib.Core.Path.{_≡_, refl, ap}
-use mathlib.Core.Bool.{Bool, true, false}
+use mathlib.Core.Path.{_≡_, refl}
+use mathlib.Core.Bool.{true, false≢true}
+use mathlib.Core.Logic.{_⊎_, inl, inr}
 use mathlib.Core.List.{List, [], _∷_, _++_}
 use native.Mathlib.Omega.{arith}
 use lib.Dec.{leb}
 use lib.ListN.{length, drop, length-drop}
 use borrow.Author.Tests.{leb-true, leb-false}
 use Rattle.meaning.specs.declared.Refusal.{Refusal}
-use Rattle.meaning.specs.declared.Refusal.the-variants.{TextTooLong, BadBytes, NotAllowed, TooDeep, UnknownName, AlreadyOpen, LengthNotListed, WrongKind, WrongLength, LengthOneTarget, TooManyDeclarations, MemoryTooShort, BudgetSpent}
-use Rattle.meaning.specs.Codes.{code, Out, ok, refused, if_then_else_, declaration-limit}
+use Rattle.meaning.specs.declared.Refusal.the-variants.{MemoryTooShort, BudgetSpent}
+use Rattle.meaning.specs.Codes.{code, Out, ok, refused, the-judge-gives, only-a-run-gives}
 use Rattle.meaning.specs.Tree.{kind-number}
 use Rattle.meaning.specs.Program.{Program}
 use Rattle.meaning.specs.Memory.{Memory, Declarations, little-endian, need}
-use Rattle.meaning.specs.Running as R
 use Rattle.meaning.specs.Running.{Ran, stopped, done}
-use Rattle.meaning.specs.Services.{Answer, answer, judged, verdict, judge, evaluate, effect, ended, executed, run, sixteen, listed, table-of, variables}
-use Rattle.layout.specs.Sound.{Laid}
-use Rattle.limits.proofs.Outcomes.{said, early}
-use Rattle.limits.proofs.Accepted.{judged-ends}
-use Rattle.answers.specs.Near.{Within, fine, at-most, Near-program, Stops, near-done, near-spent}
-use Rattle.answers.proofs.Running.{run-stops}
-use Rattle.answers.proofs.Places.{judged-within}
-use Rattle.promises.specs.Answers.{need-limit, Judges, accepts, refuses, Runs, stops, too-short, runs-out, ends, Lists, lists, lists-none}
-
--- The numbers of the refusals begin at 1.
-some-code : (c : Refusal) → 1 ≤ code c
-some-code TextTooLong = omega arith
-some-code BadBytes = omega arith
-some-code NotAllowed = omega arith
-some-code TooDeep = omega arith
-some-code UnknownName = omega arith
-some-code AlreadyOpen = omega arith
-some-code LengthNotListed = omega arith
-some-code WrongKind = omega arith
-some-code WrongLength = omega arith
-some-code LengthOneTarget = omega arith
-some-code TooManyDeclarations = omega arith
-some-code MemoryTooShort = omega arith
-some-code BudgetSpent = omega arith
+use Rattle.meaning.specs.Services.{Answer, answer, judged, verdict, judge, program-run, ended, executed, run, in-a-row, listed, table-of, variables}
+use Rattle.laws.specs.Outcomes.{Refused-in}
+use Rattle.laws.specs.Near.{Stops, near-done, near-spent}
+use Rattle.laws.specs.Words.{need-limit}
+use Rattle.laws.proofs.Tests.{by-if}
+use Rattle.laws.proofs.Codes.{some-code}
+use Rattle.laws.proofs.Services.{need-low, program-stops, by-verdict}
+use Rattle.promises.specs.Answers.{Judge-refuses, Judges, accepts, refuses, Runs, stops, too-short, runs-out, ends, Lists, lists, lists-none}
 
 -- The listing keeps the table's length.
 length-listed : (Γ : Declarations) (l : List ℕ) → length (listed Γ l) ≡ length l
-unfolding listed sixteen little-endian
+unfolding listed in-a-row little-endian
 length-listed [] l = refl
-length-listed (d ∷ Γ) l = go (leb 16 (length l)) refl (length-listed Γ (drop 16 l))
-  where
-    go : (b : Bool) → leb 16 (length l) ≡ b → length (listed Γ (drop 16 l)) ≡ length (drop 16 l)
-        → length (if b then (λ _. sixteen (d .place) (kind-number (d .kind)) (d .lanes) (d .address) ++ listed Γ (drop 16 l)) else λ _. l) ≡ length l
-    go true t h = omega (arith, length-drop 16 l, leb-true 16 (length l) t)
-    go false t h = refl
+length-listed (d ∷ Γ) l =
+    by-if (λ t. length t ≡ length l) (leb 16 (length l)) (λ _. in-a-row (d .place ∷ kind-number (d .kind) ∷ d .lanes ∷ d .address ∷ []) ++ listed Γ (drop 16 l)) (λ _. l)
+    (λ t. omega (arith, length-listed Γ (drop 16 l), length-drop 16 l, leb-true 16 (length l) t))
+    (λ _. refl)
 
 module _ (text : List ℕ) where
-  judge-code : (c : Refusal) (p : ℕ) → judged text ≡ refused c p → code c ≤ 11
-  judge-code c p e = early (judged-ends text) e
-
-  module _ {P : Program} {Γ : Declarations} (e : judged text ≡ ok P Γ) where
-    accepted-laid : Laid Γ
-    accepted-laid = said (judged-ends text) e .1
-
-    need-bounded : need Γ ≤ need-limit
-    unfolding declaration-limit
-    need-bounded = omega (arith, accepted-laid .small, accepted-laid .few)
+  by-judge : (c : Refusal) (p : ℕ) → Refused-in text c p → Judge-refuses (code c)
+  by-judge c p h = record { refusal = c; is = refl; judges = h .judges }
 
   pub judge-answers : Judges (judge text)
   unfolding judge verdict
-  judge-answers = go (judged text) refl
-    where
-      go : (o : Out Declarations Program) → judged text ≡ o → Judges (verdict (λ Γ. 0) o)
-      go (ok P Γ) e = accepts (need Γ) (need-bounded e)
-      go (refused c p) e = refuses (code c) p (some-code c) (judge-code c p e)
+  judge-answers =
+      by-verdict text (λ o. Judges (verdict (λ Γ. 0) o)) (λ P Γ _ r. accepts (need Γ) (need-low (r .laid))) (λ c p _ h. refuses (code c) p (by-judge c p h))
 
   pub run-answers : (M : Memory) (budget : ℕ) → Runs M budget (run text M budget)
   unfolding run executed ended
-  run-answers M budget = go (judged text) refl (judged-within text)
+  run-answers M budget =
+      by-verdict text (λ o. Runs M budget (executed program-run M budget o))
+      (λ P Γ _ r.
+      by-if (Runs M budget) (leb (need Γ) (length M)) _ _
+      (λ t. over (leb-true (need Γ) (length M) t) (need-low (r .laid)) (program-run Γ P (true ∷ []) budget M) (program-stops r (λ _. Unit {0}) (λ N e _ i. i) budget M tt))
+      (λ t. too-short (need Γ) (leb-false (need Γ) (length M) t) (need-low (r .laid))))
+      (λ c p _ h. stops (code c) p (by-judge c p h))
     where
-      over : (n : ℕ) → n ≤ length M → n ≤ need-limit → (r : Ran Memory) → Stops (length text) budget r → Runs M budget (ended n budget r)
-      over n h l (stopped c p M′ left) (near-spent k) = let all : budget - 0 ≡ budget = omega arith in rw all (runs-out p n M′ h l)
-      over n h l (done M′ left) (near-done k) = ends n (budget - left) M′ h l (omega arith)
-
-      room : (P : Program) (Γ : Declarations) → need Γ ≤ need-limit → Near-program (length text) P → (b : Bool) → leb (need Γ) (length M) ≡ b
-          → Runs M budget (if b then (λ _. ended (need Γ) budget (R.run (evaluate Γ) (effect Γ) P (true ∷ []) budget M)) else λ _. (answer 12 0 (need Γ) 0, M))
-      room P Γ l k true e =
-          over (need Γ) (leb-true (need Γ) (length M) e) l (R.run (evaluate Γ) (effect Γ) P (true ∷ []) budget M) (run-stops (length text) (evaluate Γ) (effect Γ) P k (true ∷ []) budget M)
-      room P Γ l k false e = too-short (need Γ) (leb-false (need Γ) (length M) e) l
-
-      go : (o : Out Declarations Program) → judged text ≡ o → Within (length text) (Near-program (length text)) o → Runs M budget (executed M budget o)
-      go (ok P Γ) e (fine k) = room P Γ (need-bounded e) k (leb (need Γ) (length M)) refl
-      go (refused c p) e (at-most k) = stops (code c) p (some-code c) (judge-code c p e)
+      over : {n : ℕ} → n ≤ length M → n ≤ need-limit → (r : Ran Memory) → Stops (λ _. Unit {0}) (length text) budget r → Runs M budget (ended n budget r)
+      over {n} h l (stopped c p M′ left) (near-spent k _) = let all : budget - 0 ≡ budget = omega arith in rw all (runs-out p n M′ h l)
+      over {n} h l (done M′ left) (near-done k _) = ends n (budget - left) M′ h l (omega arith)
 
   pub variables-answers : (table : List ℕ) → Lists table (variables text table)
   unfolding variables verdict table-of
-  variables-answers table = go (judged text) refl
-    where
-      go : (o : Out Declarations Program) → judged text ≡ o → Lists table (verdict length o, table-of o table)
-      go (ok P Γ) e = lists (need Γ) (length Γ) (listed Γ table) (need-bounded e) (accepted-laid e .few) (length-listed Γ table)
-      go (refused c p) e = lists-none (code c) p (some-code c) (judge-code c p e)
+  variables-answers table =
+      by-verdict text (λ o. Lists table (verdict length o, table-of o table))
+      (λ P Γ _ r. lists (need Γ) (length Γ) (listed Γ table) (need-low (r .laid)) (r .laid .few) (length-listed Γ table))
+      (λ c p _ h. lists-none (code c) p (by-judge c p h))
 
   -- Code, place and need are the judge's.
-  pub variables-judge : (table : List ℕ) → ((variables text table) .0 .code ≡ (judge text) .code) × ((variables text table) .0 .place ≡ (judge text) .place) × ((variables text table) .0 .need ≡ (judge text) .need)
+  pub variables-judge : (table : List ℕ) → judge text ≡ answer ((variables text table) .0 .code) ((variables text table) .0 .place) ((variables text table) .0 .need) 0
   unfolding variables judge verdict answer
   variables-judge table = go (judged text)
     where
-      go : (o : Out Declarations Program) → ((verdict length o) .code ≡ (verdict (λ Γ. 0) o) .code) × ((verdict length o) .place ≡ (verdict (λ Γ. 0) o) .place) × ((verdict length o) .need ≡ (verdict (λ Γ. 0) o) .need)
-      go (ok P Γ) = (refl, refl, refl)
-      go (refused c p) = (refl, refl, refl)
+      go : (o : Out Declarations Program) → verdict (λ Γ. 0) o ≡ answer ((verdict length o) .code) ((verdict length o) .place) ((verdict length o) .need) 0
+      go (ok P Γ) = refl
+      go (refused c p) = refl
 
--- Run judges the text itself: where judge refuses, run gives the same four numbers and leaves the memory.
-pub run-judges : (text : List ℕ) (M : Memory) (budget c p : ℕ) → judge text ≡ answer c p 0 0 → 1 ≤ c → run text M budget ≡ (answer c p 0 0, M)
-unfolding judge verdict run executed answer
-run-judges text M budget c p e h = go (judged text) e
-  where
-    go : (o : Out Declarations Program) → verdict (λ Γ. 0) o ≡ answer c p 0 0 → executed M budget o ≡ (answer c p 0 0, M)
-    go (ok P Γ) f = let z : 0 ≡ c = ap (λ (a : Answer). a .code) f in absurd (omega arith)
-    go (refused d q) f = ap (λ (a : Answer). (a, M)) f
+  -- Run "judges the text itself": where judge refuses, run gives the same four numbers and leaves the memory.
+  pub run-judges : (M : Memory) (budget : ℕ) → 1 ≤ (judge text) .code → run text M budget ≡ (judge text, M)
+  unfolding judge verdict run executed answer
+  run-judges M budget h = go (judged text) h
+    where
+      go : (o : Out Declarations Program) → 1 ≤ (verdict (λ Γ. 0) o) .code → executed program-run M budget o ≡ (verdict (λ Γ. 0) o, M)
+      go (ok P Γ) h = absurd (omega arith)
+      go (refused c p) h = refl
 
--- By the code: a refusal keeps the memory, a spent budget is spent whole, and no run takes more than its budget.
+-- A refusal of the judge is none of a run's.
+not-spent : Judge-refuses (code BudgetSpent) → ⊥
+unfolding the-judge-gives only-a-run-gives
+not-spent j = false≢true (rw (← j .is) at (j .judges))
+
+not-zero : Judge-refuses 0 → ⊥
+not-zero j = omega (arith, j .is, some-code (j .refusal))
+
+-- By the code: a refusal of the judge and a memory that is too short keep the memory, a spent budget is spent whole, and no run takes more
+-- than its budget.
 module _ {M : Memory} {budget : ℕ} where
-  pub refusal-keeps : {o : Answer × Memory} → Runs M budget o → 1 ≤ o .0 .code → o .0 .code ≤ 12 → o .1 ≡ M
+  pub refusal-keeps : {o : Answer × Memory} → Runs M budget o → Judge-refuses (o .0 .code) ⊎ (o .0 .code ≡ code MemoryTooShort) → o .1 ≡ M
   unfolding answer
-  refusal-keeps (stops c p h l) some few = refl
-  refusal-keeps (too-short n h l) some few = refl
-  refusal-keeps (runs-out p n M′ h l) some few = absurd (omega arith)
-  refusal-keeps (ends n s M′ h l t) some few = absurd (omega arith)
+  refusal-keeps (stops c p j) _ = refl
+  refusal-keeps (too-short n h l) _ = refl
+  refusal-keeps (runs-out p n M′ h l) (inl j) = absurd (not-spent j)
+  refusal-keeps (runs-out p n M′ h l) (inr e) = absurd (omega arith)
+  refusal-keeps (ends n s M′ h l t) (inl j) = absurd (not-zero j)
+  refusal-keeps (ends n s M′ h l t) (inr e) = absurd (omega arith)
 
-  pub all-steps : {o : Answer × Memory} → Runs M budget o → o .0 .code ≡ 13 → o .0 .steps ≡ budget
+  pub all-steps : {o : Answer × Memory} → Runs M budget o → o .0 .code ≡ code BudgetSpent → o .0 .steps ≡ budget
   unfolding answer
-  all-steps (stops c p h l) e = absurd (omega arith)
+  all-steps (stops c p j) e = absurd (not-spent (rw e at j))
   all-steps (too-short n h l) e = absurd (omega arith)
   all-steps (runs-out p n M′ h l) e = refl
   all-steps (ends n s M′ h l t) e = absurd (omega arith)
 
-  pub no-more-steps : {o : Answer × Memory} → Runs M budget o → o .0 .steps ≤ budget
-  unfolding answer
-  no-more-steps (stops c p h l) = omega arith
-  no-more-steps (too-short n h l) = omega arith
-  no-more-steps (runs-out p n M′ h l) = omega arith
-  no-more-steps (ends n s M′ h l t) = t
-
 pub listing-keeps : {table : List ℕ} {o : Answer × List ℕ} → Lists table o → 1 ≤ o .0 .code → o .1 ≡ table
 unfolding answer
 listing-keeps (lists n k table′ l t s) some = absurd (omega arith)
-listing-keeps (lists-none c p h l) some = refl
-
-pub few-listed : {table : List ℕ} {o : Answer × List ℕ} → Lists table o → o .0 .steps ≤ declaration-limit
-unfolding answer
-few-listed (lists n k table′ l t s) = t
-few-listed (lists-none c p h l) = omega arith
+listing-keeps (lists-none c p j) some = refl

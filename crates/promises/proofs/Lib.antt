@@ -2,5 +2,4 @@ pub mod Answers
 pub mod Calls
 pub mod Demands
 pub mod Starred
-pub mod Keeping
 pub mod Outside

@@ -3,21 +3,15 @@ use mathlib.Core.Path.{_≡_, ap}
 use mathlib.Core.List.{List, [], _∷_, map}
 use Rattle.meaning.specs.Tokens.{bytes}
 use Rattle.meaning.specs.Services.{judge, run}
-use Rattle.meaning.specs.Table.{Row, judged-as, found, expected, starred, checked-by-hand}
-use Rattle.meaning.specs.Errors.{errors, none-is-made}
-use Rattle.promises.specs.Starred.{Every, none, more, Serves}
+use Rattle.meaning.specs.Table.{Row, judged-as, found, expected, starred}
+use Rattle.meaning.specs.Errors.{errors}
+use Rattle.meaning.proofs.Table.{checked-by-hand}
+use Rattle.meaning.proofs.Errors.{none-is-made}
+use Rattle.laws.specs.Values.{All, no-more, and-one}
+use Rattle.promises.specs.Starred.{Serves}
 use Rattle.promises.proofs.Demands.{judge-delivers, run-delivers}
 
--- Two functions that make the same of a list make the same of each element.
-each-same : {A B : Type 0} (f g : A → B) (l : List A) → map f l ≡ map g l → Every (λ x. f x ≡ g x) l
-each-same f g [] e = none
-each-same f g (x ∷ l) e = more {x = x} (cc) (each-same f g l (cc))
-
-every : {A : Type 0} {P Q : A → Type 0} {l : List A} → ((x : A) → P x → Q x) → Every P l → Every Q l
-every h none = none
-every h (more p r) = more (h _ p) (every h r)
-
--- A row that run and judge answer as expected, the services answer so.
+-- A row that run and judge answer as expected, the services answer so; and so do they every row of a table.
 serves : (r : Row) → found r ≡ expected r → Serves r
 unfolding found expected
 serves r e =
@@ -28,12 +22,16 @@ serves r e =
       judges = λ slice {returned} {slice′} kept. rw told at (judge-delivers (bytes (r .text)) slice kept);
     }
 
+all-serve : (l : List Row) → map found l ≡ map expected l → All Serves l
+all-serve [] e = no-more
+all-serve (r ∷ l) e = and-one (serves r (cc)) (all-serve l (cc))
+
 -- "The starred cases form one table under a single theorem": every result that keeps the services' promises has the table's
 -- numbers and bytes. Rows that are accepted, rows with different codes, rows that leave another memory and rows of several
 -- statements rule out the services that demand 2 names.
-pub starred-served : Every Serves starred
-starred-served = every serves (each-same found expected starred checked-by-hand)
+pub starred-served : All Serves starred
+starred-served = all-serve starred checked-by-hand
 
 -- And every one of them keeps clear of the errors that come easily.
-pub errors-served : Every Serves errors
-errors-served = every serves (each-same found expected errors none-is-made)
+pub errors-served : All Serves errors
+errors-served = all-serve errors none-is-made

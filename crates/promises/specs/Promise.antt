@@ -1,32 +1,26 @@
--- What a service promises whoever calls it.
-use Prim.Native.Nat.{ℕ, _≤_, _<_}
+-- What a service that keeps its promise (`Kept`, of `meaning`) delivers to whoever calls it.
+use Prim.Native.Nat.{ℕ, _*_, _≤_, _<_}
 use mathlib.Core.Path.{_≡_}
-use mathlib.Core.List.{List, _++_}
+use mathlib.Core.List.{List}
 use lib.ListN.{length, take, drop}
 use Rattle.meaning.specs.Memory.{number-of}
-use Rattle.meaning.specs.Services.{Answer, answer, Called, sixteen}
+use Rattle.meaning.specs.Services.{Answer, answer, numbers, with-numbers}
 
--- What it returns, the answer slice and what was lent are the definition's.
-pub record Kept {A : Type 0} (by : Called A) (returned : ℕ) (slice : List ℕ) (lent : A) : Type 0 where
-  pub returns : returned ≡ by .returns
-  pub slice-is : slice ≡ by .slice
-  pub lent-is : lent ≡ by .lent
+-- "It lends a slice for the answer: at least 16 bytes".
+abbrev pub answer-bytes : ℕ
+answer-bytes = 16
 
--- An answer slice with the four numbers in its first sixteen bytes.
-unfoldable pub with-answer : ℕ → ℕ → ℕ → ℕ → List ℕ → List ℕ
-with-answer c p n s slice = sixteen c p n s ++ drop 16 slice
+-- Number i of the "32-bit little-endian numbers" in a row.
+unfoldable pub number-at : ℕ → List ℕ → ℕ
+number-at i slice = number-of (take 4 (drop (4 * i) slice))
 
--- The same, with the numbers of an answer.
-abbrev pub holding : Answer → List ℕ → List ℕ
-holding a slice = with-answer (a .code) (a .place) (a .need) (a .steps) slice
-
--- The four numbers that a caller reads in an answer slice.
+-- What a caller reads in an answer slice: "code, place, need, steps".
 unfoldable pub numbers-in : List ℕ → Answer
-numbers-in slice = answer (number-of (take 4 slice)) (number-of (take 4 (drop 4 slice))) (number-of (take 4 (drop 8 slice))) (number-of (take 4 (drop 12 slice)))
+numbers-in slice = answer (number-at 0 slice) (number-at 1 slice) (number-at 2 slice) (number-at 3 slice)
 
 -- A call that answers a, and leaves `after` of what it was lent: "A shorter answer slice returns 0 and nothing else happens."
 -- Otherwise "code, place, need, steps are written as four 32-bit little-endian numbers; bytes after the 16th stay. The call then
 -- returns 1."
 pub record Delivers {A : Type 0} (slice : List ℕ) (lent : A) (a : Answer) (after : A) (returned : ℕ) (slice′ : List ℕ) (lent′ : A) : Type 0 where
-  pub without-room : length slice < 16 → (returned ≡ 0) × (slice′ ≡ slice) × (lent′ ≡ lent)
-  pub with-room : 16 ≤ length slice → (returned ≡ 1) × (slice′ ≡ holding a slice) × (lent′ ≡ after)
+  pub without-room : length slice < answer-bytes → (returned ≡ 0) × (slice′ ≡ slice) × (lent′ ≡ lent)
+  pub with-room : answer-bytes ≤ length slice → (returned ≡ 1) × (slice′ ≡ with-numbers (numbers a) slice) × (lent′ ≡ after)

@@ -9,7 +9,7 @@ use lib.Dec.{leb}
 use lib.ListN.{length}
 use borrow.Author.Tests.{leb-true, le-leb}
 use Rattle.meaning.specs.declared.Refusal.{Refusal}
-use Rattle.meaning.specs.declared.Refusal.the-variants.{TextTooLong, BadBytes, NotAllowed, TooDeep, UnknownName, AlreadyOpen, LengthNotListed, WrongKind, WrongLength, LengthOneTarget, TooManyDeclarations, MemoryTooShort, BudgetSpent}
+use Rattle.meaning.specs.declared.Refusal.the-variants.{TextTooLong}
 use Rattle.meaning.specs.Codes.{code, Out, ok, refused, if_then_else_, text-limit, nesting-limit}
 use Rattle.meaning.specs.Tokens as T
 use Rattle.meaning.specs.Tokens.{Token, lexed}
@@ -20,7 +20,9 @@ use Rattle.meaning.specs.Memory.{Declarations}
 use Rattle.meaning.specs.Typing.{typed-statements, typed-program}
 use Rattle.meaning.specs.Services.{pass, judged, verdict, judge, answer}
 use Rattle.rules.specs.Accepted.{Accepted, Placed}
-use Rattle.rules.proofs.Acts.{Succeeds, refuses, yielded}
+use Rattle.laws.specs.Outcomes.{refusal, Succeeds}
+use Rattle.laws.proofs.Outcomes.{said}
+use Rattle.laws.proofs.Codes.{some-code}
 use Rattle.rules.proofs.Names.{opens}
 use Rattle.rules.proofs.Typed.{sequence-by-rules}
 use Rattle.rules.proofs.Typable.{typable}
@@ -45,19 +47,7 @@ judged-is text = refl
 
 -- Code 0 is no refusal's.
 pub refusal-above-0 : (c : Refusal) → code c ≡ 0 → ⊥
-refusal-above-0 TextTooLong e = omega arith
-refusal-above-0 BadBytes e = omega arith
-refusal-above-0 NotAllowed e = omega arith
-refusal-above-0 TooDeep e = omega arith
-refusal-above-0 UnknownName e = omega arith
-refusal-above-0 AlreadyOpen e = omega arith
-refusal-above-0 LengthNotListed e = omega arith
-refusal-above-0 WrongKind e = omega arith
-refusal-above-0 WrongLength e = omega arith
-refusal-above-0 LengthOneTarget e = omega arith
-refusal-above-0 TooManyDeclarations e = omega arith
-refusal-above-0 MemoryTooShort e = omega arith
-refusal-above-0 BudgetSpent e = omega arith
+refusal-above-0 c e = omega (arith, some-code c)
 
 -- The three passes of an accepted text, and back.
 pub passed : (text : List ℕ) (P : Program) (Γ : Declarations) → judged text ≡ ok P Γ → (tree : Stmts) × Placed text tree Γ
@@ -95,7 +85,7 @@ module _ (text : List ℕ) (tree : Stmts) (Γ : Declarations) (p : Placed text t
   by-rules : Accepted text
   unfolding opens
   by-rules =
-      let h = yielded (sequence-by-rules tree 1 []) tree-typed in
+      let h = said (sequence-by-rules tree 1 []) tree-typed in
       record {
         tokens = p .tokens;
         end = p .end;
@@ -128,7 +118,7 @@ placed text a = go (typed-statements 1 (a .tree) []) refl ((typable (a .types)) 
         types = typed-is (a .tree) ∙ e;
       },
     )
-    go (refused c p) e (refuses never) = absurd never
+    go (refused c p) e (refusal never) = absurd never
 
 judge-is : (text : List ℕ) → judge text ≡ verdict (λ Γ. 0) (judged text)
 unfolding judge

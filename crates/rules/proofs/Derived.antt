@@ -10,7 +10,7 @@ use Rattle.meaning.specs.declared.Refusal.the-variants.{BudgetSpent}
 use Rattle.meaning.specs.Program.{Code, Program, nothing, step, put, both, choice, cycle, alone}
 use Rattle.meaning.specs.Memory.{Memory, Value, Mask, Declarations, declared, fetch, update, spread}
 use Rattle.meaning.specs.Running.{Ran, Run, stopped, done, value, costs, and-then, some-lane, unless-empty, branches, while-left, loop, evaluating, testing, run}
-use Rattle.meaning.specs.Services.{evaluate, effect}
+use Rattle.meaning.specs.Services.{evaluate, effect, program-run}
 use Rattle.rules.specs.Evaluation.{_∩_, _∖_, End, ended, due}
 use Rattle.rules.proofs.Resolved.{_∣_∣_▹_⇒_, R-CONST, R-VAR, R-MASK, R-UNARY, R-BINARY, Costly, step-costs, put-costs, choice-costs, _∣_∣_▹_⇓_after_, R-INACTIVE, R-ACTIVE, R-NOTHING, R-DECL, R-ASSIGN, R-BROADCAST, R-SEQUENCE, R-IF, R-WHILE, R-SCALAR, R-DUE, R-SEQUENCE-DUE, R-IF-DUE, R-LEAVE, R-AGAIN, R-TEST-DUE, R-BODY-DUE}
 use Rattle.rules.proofs.Masks.{runs, skips, while-as-rule, branches-as-rule}
@@ -47,48 +47,45 @@ module _ (Γ : Declarations) where
   has-value (R-UNARY d) = rw (has-value d)
   has-value (R-BINARY d d′ h) = rw (has-value d, has-value d′)
 
-  -- A program over bytes, and a loop of at most f tests.
-  abbrev pub exec : Program → Run Memory
-  exec = run (evaluate Γ) (effect Γ)
-
+  -- A loop of at most f tests.
   abbrev pub turns : ℕ → ℕ → Code → Program → Mask → Run Memory
-  turns f p e s m₀ = loop f p (testing (evaluate Γ) (effect Γ) p e m₀) (exec s)
+  turns f p e s m₀ = loop f p (testing (evaluate Γ) (effect Γ) p e m₀) (program-run Γ s)
 
   -- The clauses of a run.
   module _ (m : Mask) (b : ℕ) (M : Memory) where
-    pub run-put : (p x : ℕ) (e : Code) → exec (put p x e) m (suc b) M ≡ done (update Γ M x m (value e m (fetch Γ M))) b
+    pub run-put : (p x : ℕ) (e : Code) → program-run Γ (put p x e) m (suc b) M ≡ done (update Γ M x m (value e m (fetch Γ M))) b
     unfolding run evaluate effect
     run-put p x e = refl
 
-    pub run-both : (s t : Program) → exec (both s t) m b M ≡ and-then (exec s m b M) (exec t m)
+    pub run-both : (s t : Program) → program-run Γ (both s t) m b M ≡ and-then (program-run Γ s m b M) (program-run Γ t m)
     unfolding run
     run-both s t = refl
 
     pub run-choice : (p : ℕ) (e : Code) (s t : Program) →
-        exec (choice p e s t) m (suc b) M ≡ branches (value e m (fetch Γ M)) (exec s) (exec t) m b M
+        program-run Γ (choice p e s t) m (suc b) M ≡ branches (value e m (fetch Γ M)) (program-run Γ s) (program-run Γ t) m b M
     unfolding run evaluate effect
     run-choice p e s t = refl
 
-    pub run-cycle : (p : ℕ) (e : Code) (s : Program) → exec (cycle p e s) m b M ≡ turns b p e s m m b M
+    pub run-cycle : (p : ℕ) (e : Code) (s : Program) → program-run Γ (cycle p e s) m b M ≡ turns b p e s m m b M
     unfolding run
     run-cycle p e s = refl
 
-    pub run-alone : (s : Program) → exec (alone s) m b M ≡ exec s (true ∷ []) b M
+    pub run-alone : (s : Program) → program-run Γ (alone s) m b M ≡ program-run Γ s (true ∷ []) b M
     unfolding run
     run-alone s = refl
 
     pub run-turn : (f p : ℕ) (e : Code) (s : Program) (m₀ : Mask) →
         turns (suc f) p e s m₀ m (suc b) M
-        ≡ while-left (value e m₀ (fetch Γ M)) (λ m b M. and-then (exec s m b M) (turns f p e s m₀ m)) m b M
+        ≡ while-left (value e m₀ (fetch Γ M)) (λ m b M. and-then (program-run Γ s m b M) (turns f p e s m₀ m)) m b M
     unfolding loop costs evaluating testing evaluate effect
     run-turn f p e s m₀ = refl
 
   -- Of a statement under any mask; under one with an active lane; and of a loop, with tests for its budget.
   pub record Runs (m : Mask) (M : Memory) (s : Program) (r : End) (n : ℕ) : Type 0 where
-    pub is : (b : ℕ) → Left r b → unless-empty (exec s) m (n + b) M ≡ answers r b
+    pub is : (b : ℕ) → Left r b → unless-empty (program-run Γ s) m (n + b) M ≡ answers r b
 
   record Runs-active (m : Mask) (M : Memory) (s : Program) (r : End) (n : ℕ) : Type 0 where
-    is : some-lane m ≡ true → (b : ℕ) → Left r b → exec s m (n + b) M ≡ answers r b
+    is : some-lane m ≡ true → (b : ℕ) → Left r b → program-run Γ s m (n + b) M ≡ answers r b
 
   record Loops (p : ℕ) (e : Code) (s : Program) (m₀ m : Mask) (M : Memory) (r : End) (n : ℕ) : Type 0 where
     is : some-lane m ≡ true → (b : ℕ) → Left r b → (f : ℕ) → turns (n + b + f) p e s m₀ m (n + b) M ≡ answers r b
@@ -96,23 +93,23 @@ module _ (Γ : Declarations) where
   -- A test that the budget allows.
   pub tested : (m m₀ : Mask) (M : Memory) (p : ℕ) (e : Code) (s : Program) (c : Value) (b f : ℕ) → value e m₀ (fetch Γ M) ≡ c →
       some-lane m ≡ true →
-      turns (suc f) p e s m₀ m (suc b) M ≡ unless-empty (λ m b M. and-then (exec s m b M) (turns f p e s m₀ m)) (m ∩ c) b M
+      turns (suc f) p e s m₀ m (suc b) M ≡ unless-empty (λ m b M. and-then (program-run Γ s m b M) (turns f p e s m₀ m)) (m ∩ c) b M
   tested m m₀ M p e s c b f i h = rw (run-turn m b M f p e s m₀, i) (while-as-rule m h _ c b M)
 
   -- And one that leaves lanes in the loop.
   taken : (m m₀ : Mask) (M : Memory) (p : ℕ) (e : Code) (s : Program) (c : Value) (b f : ℕ) → value e m₀ (fetch Γ M) ≡ c →
       some-lane m ≡ true → some-lane (m ∩ c) ≡ true →
-      turns (suc f) p e s m₀ m (suc b) M ≡ and-then (unless-empty (exec s) (m ∩ c) b M) (turns f p e s m₀ (m ∩ c))
-  taken m m₀ M p e s c b f i h x = rw (tested m m₀ M p e s c b f i h, runs (exec s) (m ∩ c) b M x) (runs _ (m ∩ c) b M x)
+      turns (suc f) p e s m₀ m (suc b) M ≡ and-then (unless-empty (program-run Γ s) (m ∩ c) b M) (turns f p e s m₀ (m ∩ c))
+  taken m m₀ M p e s c b f i h x = rw (tested m m₀ M p e s c b f i h, runs (program-run Γ s) (m ∩ c) b M x) (runs _ (m ∩ c) b M x)
 
   -- A law for each rule.
   module _ {m : Mask} {M : Memory} where
     skipped : {s : Program} → some-lane m ≡ false → Runs m M s (ended M) 0
     unfolding answers
-    skipped {s} h = record { is = λ b l. rw zero-add (skips (exec s) m b M h) }
+    skipped {s} h = record { is = λ b l. rw zero-add (skips (program-run Γ s) m b M h) }
 
     active : {s : Program} {r : End} {n : ℕ} → some-lane m ≡ true → Runs-active m M s r n → Runs m M s r n
-    active {s} {n} h k = record { is = λ b l. runs (exec s) m (n + b) M h ∙ k .is h b l }
+    active {s} {n} h k = record { is = λ b l. runs (program-run Γ s) m (n + b) M h ∙ k .is h b l }
 
     nothings : Runs-active m M nothing (ended M) 0
     unfolding run answers
@@ -136,7 +133,7 @@ module _ (Γ : Declarations) where
     boths {M₁} {s} {t} {n} {n′} k k′ =
         record {
           is = λ h b l.
-              rw (add-assoc, run-both, ← runs (exec s) m (n + (n′ + b)) M h, k .is (n′ + b) tt, ← runs (exec t) m (n′ + b) M₁ h)
+              rw (add-assoc, run-both, ← runs (program-run Γ s) m (n + (n′ + b)) M h, k .is (n′ + b) tt, ← runs (program-run Γ t) m (n′ + b) M₁ h)
               (k′ .is b l);
         }
 
@@ -147,7 +144,7 @@ module _ (Γ : Declarations) where
     choices {c} {s} {t} {n} {n′} i k k′ =
         record {
           is = λ h b l.
-              rw (suc-add, add-assoc, run-choice, i, branches-as-rule m h (exec s) (exec t) c (n + (n′ + b)) M, k .is (n′ + b) tt)
+              rw (suc-add, add-assoc, run-choice, i, branches-as-rule m h (program-run Γ s) (program-run Γ t) c (n + (n′ + b)) M, k .is (n′ + b) tt)
               (k′ .is b l);
         }
 
@@ -156,7 +153,7 @@ module _ (Γ : Declarations) where
 
     alones : {s : Program} {r : End} {n : ℕ} → Runs (true ∷ []) M s r n → Runs-active m M (alone s) r n
     unfolding some-lane
-    alones {s} {n} k = record { is = λ h b l. rw (run-alone, ← runs (exec s) (true ∷ []) (n + b) M refl) (k .is b l) }
+    alones {s} {n} k = record { is = λ h b l. rw (run-alone, ← runs (program-run Γ s) (true ∷ []) (n + b) M refl) (k .is b l) }
 
     dues : {p : ℕ} {s : Program} → Costly s p → Runs-active m M s (due p M) 0
     unfolding run answers Left
@@ -166,13 +163,13 @@ module _ (Γ : Declarations) where
 
     boths-due : {M₁ : Memory} {s t : Program} {p n : ℕ} → Runs m M s (due p M₁) n → Runs-active m M (both s t) (due p M₁) n
     unfolding and-then answers
-    boths-due {s} {n} k = record { is = λ h b l. rw (run-both, ← runs (exec s) m (n + b) M h, k .is b l) }
+    boths-due {s} {n} k = record { is = λ h b l. rw (run-both, ← runs (program-run Γ s) m (n + b) M h, k .is b l) }
 
     choices-due : {M₁ : Memory} {p q : ℕ} {e : Code} {c : Value} {s t : Program} {n : ℕ} →
         value e m (fetch Γ M) ≡ c → Runs (m ∩ c) M s (due q M₁) n → Runs-active m M (choice p e s t) (due q M₁) (suc n)
     unfolding and-then answers
     choices-due {c} {s} {t} {n} i k =
-        record { is = λ h b l. rw (suc-add, run-choice, i, branches-as-rule m h (exec s) (exec t) c (n + b) M, k .is b l) }
+        record { is = λ h b l. rw (suc-add, run-choice, i, branches-as-rule m h (program-run Γ s) (program-run Γ t) c (n + b) M, k .is b l) }
 
     leaves : {p : ℕ} {e : Code} {s : Program} {m₀ : Mask} {c : Value} → value e m₀ (fetch Γ M) ≡ c → some-lane (m ∩ c) ≡ false →
         Loops p e s m₀ m M (ended M) 1

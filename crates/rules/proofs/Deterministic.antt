@@ -13,6 +13,7 @@ use Rattle.meaning.specs.Running.{some-lane}
 use Rattle.rules.specs.Typing.{Names, _∣_⊢_∶⟨_∣_⟩, T-NUMBER, T-BOOLEAN, T-VAR, T-MASK, T-UNARY, T-BINARY, _∣_⊢_⊣_, T-SKIP, T-SCOPE, T-DECL, T-INIT, T-ASSIGN, T-BROADCAST, T-IF, T-WHILE, T-SCALAR, _∣_⊢*_⊣_, T-NONE, T-SEQUENCE}
 use Rattle.rules.specs.Scopes.{Scope}
 use Rattle.rules.specs.Evaluation.{_∣_∣_⊢_⇒⟨_∣_⟩, _∣_∣_⊢*_↓_after_, End, ended, due}
+use Rattle.rules.proofs.Operators.{in-table}
 use Rattle.rules.proofs.Resolved.{R-ACTIVE}
 use Rattle.rules.proofs.Programs.{to-code, programs, to-programs}
 use Rattle.rules.proofs.Derived.{has-value, Runs, as-run, answers, Left}
@@ -29,7 +30,7 @@ one-type (T-VAR e m) (T-VAR e′ m′) = let same = one-entry e e′ in (ap (λ 
 one-type T-MASK T-MASK = (refl, refl)
 one-type (T-UNARY t d) (T-UNARY t′ d′) = one-type d d′
 one-type (T-BINARY t a b m) (T-BINARY t′ a′ b′ m′) =
-    (ap (gives-kind _) (one-type a a′ .0), ap₂ joined (one-type a a′ .1) (one-type b b′ .1))
+    (sym (in-table t .1) ∙ ap (gives-kind _) (one-type a a′ .0) ∙ in-table t′ .1, ap₂ joined (one-type a a′ .1) (one-type b b′ .1))
 
 -- Names.
 pub one-names : {Γ Γ₁ Γ₂ : Names} {C : ℕ} {s : Stmt} → Γ ∣ C ⊢ s ⊣ Γ₁ → Γ ∣ C ⊢ s ⊣ Γ₂ → Γ₁ ≡ Γ₂

@@ -3,8 +3,8 @@ pub mod Lengths
 pub mod Resolved
 pub mod Derived
 pub mod Progress
-pub mod Acts
 pub mod Names
+pub mod Operators
 pub mod Typed
 pub mod Typable
 pub mod Acceptance

@@ -6,14 +6,9 @@ use mathlib.Core.List.{List, [], _∷_, zipWith}
 use lib.ListN.{length, replicate}
 use Rattle.meaning.specs.Memory.{Value, Mask, truth, spread}
 use Rattle.meaning.specs.Running.{Ran, Run, stopped, done, and-then, lanewise, some-lane, mask-and, mask-and-not, unless-empty, branches, while-left}
+use Rattle.laws.proofs.Tests.{and-false}
+use Rattle.laws.proofs.Values.{spread-one}
 use Rattle.rules.specs.Evaluation.{_∩_, _∖_}
-
--- To spread to one lane changes nothing.
-pub spread-one : {A : Type 0} (m : List A) → spread 1 m ≡ m
-unfolding spread
-spread-one [] = refl
-spread-one (a ∷ []) = refl
-spread-one (a ∷ b ∷ m) = refl
 
 zip-empty : {A B D : Type 0} (f : A → B → D) (u : List A) → zipWith f u [] ≡ []
 unfolding zipWith
@@ -35,10 +30,6 @@ zip-clears f x h (a ∷ m) = rw (h a, zip-clears f x h m)
 and-true : (a : Bool) → a && true ≡ a
 and-true true = refl
 and-true false = refl
-
-and-false : (a : Bool) → a && false ≡ false
-and-false true = refl
-and-false false = refl
 
 module _ {S : Type 0} (r : Run S) (m : Mask) (b : ℕ) (σ : S) where
   -- What is run where some lane is active, and skipped where none is.

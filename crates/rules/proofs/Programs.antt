@@ -13,6 +13,7 @@ use Rattle.meaning.specs.Running.{some-lane}
 use Rattle.meaning.specs.Typing.{gives-kind}
 use Rattle.rules.specs.Scopes.{Scope, _means_, opened, beyond, past, past-all, declarations}
 use Rattle.rules.specs.Evaluation.{_∣_∣_⊢_⇒⟨_∣_⟩, _∣_∣_⊢_≔⟨_∣_⟩_, E-ASSIGN, E-BROADCAST, E-NUMBER, E-BOOLEAN, E-VAR, E-MASK, E-UNARY, E-BINARY, End, ended, Costs, empty-costs, declare-costs, assign-costs, if-costs, _∣_∣_⊢*_↓_after_, E-SKIP, E-SCOPE, E-DECL, E-INIT, E-STORE, E-IF, E-WHILE, E-SCALAR, DUE, IF-DUE, E-NONE, E-SEQUENCE, SEQUENCE-DUE, E-INACTIVE, E-ACTIVE, LEAVE, AGAIN, TEST-DUE, BODY-DUE}
+use Rattle.rules.proofs.Operators.{in-table}
 use Rattle.rules.proofs.Resolved.{_∣_∣_▹_⇒_, R-CONST, R-VAR, R-MASK, R-UNARY, R-BINARY, Costly, step-costs, put-costs, choice-costs, _∣_∣_▹_⇓_after_, R-INACTIVE, R-ACTIVE, _∣_∣_▹_↓_after_, R-NOTHING, R-DECL, R-ASSIGN, R-BROADCAST, R-SEQUENCE, R-IF, R-WHILE, R-SCALAR, R-DUE, R-SEQUENCE-DUE, R-IF-DUE, Loop, R-LEAVE, R-AGAIN, R-TEST-DUE, R-BODY-DUE}
 
 -- The number of a name, 0 where it is not open; the kind and the code of an expression.
@@ -78,8 +79,8 @@ to-code E-BOOLEAN = (refl, R-CONST)
 to-code {σ} (E-VAR {x = x} h f) =
     (ap (λ i. (declared (σ .table) i) .kind) (sym (the-number σ x h)), rw (the-number σ x h) (R-VAR f))
 to-code E-MASK = (refl, R-MASK)
-to-code (E-UNARY d) = let t = to-code d in (t .0, rw (← t .0) (R-UNARY (t .1)))
-to-code (E-BINARY d d′ f) = let t = to-code d in (ap (gives-kind _) (t .0), rw (← t .0) (R-BINARY (t .1) (to-code d′ .1) f))
+to-code (E-UNARY u d) = let t = to-code d in (t .0, rw (← t .0) (R-UNARY (t .1)))
+to-code (E-BINARY u d d′ f) = let t = to-code d in (sym (in-table u .1) ∙ ap (gives-kind _) (t .0), rw (← t .0) (R-BINARY (t .1) (to-code d′ .1) f))
 
 -- A store into the variable i.
 to-put : {σ : Scope} {m : Mask} {M M′ : Memory} {p i : ℕ} {c : Code} {k : Kind} {v : Value} → σ .table ∣ m ∣ M ▹ c ⇒ v →

@@ -10,14 +10,14 @@ use Rattle.meaning.specs.declared.Refusal.the-variants.{BudgetSpent}
 use Rattle.meaning.specs.Program.{Code, Program, nothing, step, put, both, choice, cycle, alone}
 use Rattle.meaning.specs.Memory.{Memory, Value, Mask, Declarations, declared, update}
 use Rattle.meaning.specs.Running.{Ran, Run, stopped, done, costs, and-then, some-lane, unless-empty, loop, evaluating, testing, run}
-use Rattle.meaning.specs.Services.{evaluate, effect}
+use Rattle.meaning.specs.Services.{evaluate, effect, program-run}
 use Rattle.meaning.specs.Typing.{joined}
 use Rattle.rules.specs.Lengths.{Match, Target, Fills, whole, broadcast}
 use Rattle.rules.specs.Evaluation.{_∩_, _∖_, End, ended, due}
 use Rattle.rules.proofs.Resolved.{_∣_∣_▹_⇒_, step-costs, put-costs, choice-costs, _∣_∣_▹_⇓_after_, R-INACTIVE, R-ACTIVE, _∣_∣_▹_↓_after_, R-NOTHING, R-DECL, R-ASSIGN, R-BROADCAST, R-SEQUENCE, R-IF, R-WHILE, R-SCALAR, R-DUE, R-SEQUENCE-DUE, R-IF-DUE, Loop, R-LEAVE, R-AGAIN, R-TEST-DUE, R-BODY-DUE}
 use Rattle.rules.proofs.Masks.{runs, skips, branches-as-rule}
 use Rattle.rules.proofs.Lengths.{length-first, length-second, joined-again, joined-match}
-use Rattle.rules.proofs.Derived.{has-value, exec, turns, run-both, run-cycle, run-alone, tested, broadcast as broadcasts}
+use Rattle.rules.proofs.Derived.{has-value, turns, run-both, run-cycle, run-alone, tested, broadcast as broadcasts}
 
 -- By the rules J: a run that ends did so in the steps that it took, and one that is spent after its whole budget b.
 pub data ByRules (J : End → ℕ → Type 0) (b : ℕ) : Ran Memory → Type 0 where
@@ -61,7 +61,7 @@ module _ (Γ : Declarations) where
   -- What runs under a mask of C lanes, one of them active, does so by the rules.
   pub record Goes (C : ℕ) (s : Program) : Type 0 where
     pub by-rules : (m : Mask) (M : Memory) (b : ℕ) → length m ≡ C → some-lane m ≡ true →
-        ByRules (λ r n. Γ ∣ m ∣ M ▹ s ↓ r after n) b (exec Γ s m b M)
+        ByRules (λ r n. Γ ∣ m ∣ M ▹ s ↓ r after n) b (program-run Γ s m b M)
 
   -- A value of n lanes is stored by R-ASSIGN or R-BROADCAST.
   stored : {m : Mask} {M : Memory} {p x n : ℕ} {e : Code} (v : Value) → Γ ∣ m ∣ M ▹ e ⇒ v → length v ≡ n →
@@ -74,12 +74,12 @@ module _ (Γ : Declarations) where
 
   -- Under any mask of C lanes.
   branch-goes : {C : ℕ} {s : Program} → Goes C s → (m : Mask) (M : Memory) (b : ℕ) → length m ≡ C →
-      ByRules (λ r n. Γ ∣ m ∣ M ▹ s ⇓ r after n) b (unless-empty (exec Γ s) m b M)
+      ByRules (λ r n. Γ ∣ m ∣ M ▹ s ⇓ r after n) b (unless-empty (program-run Γ s) m b M)
   branch-goes {s} g m M b l = at (some-lane m) refl
     where
-      at : (t : Bool) → some-lane m ≡ t → ByRules (λ r n. Γ ∣ m ∣ M ▹ s ⇓ r after n) b (unless-empty (exec Γ s) m b M)
-      at true a = rw (runs (exec Γ s) m b M a) (to-rules (λ _ _ d. R-ACTIVE a d) (g .by-rules m M b l a))
-      at false a = rw (skips (exec Γ s) m b M a) (ends 0 b (R-INACTIVE a) (omega arith))
+      at : (t : Bool) → some-lane m ≡ t → ByRules (λ r n. Γ ∣ m ∣ M ▹ s ⇓ r after n) b (unless-empty (program-run Γ s) m b M)
+      at true a = rw (runs (program-run Γ s) m b M a) (to-rules (λ _ _ d. R-ACTIVE a d) (g .by-rules m M b l a))
+      at false a = rw (skips (program-run Γ s) m b M a) (ends 0 b (R-INACTIVE a) (omega arith))
 
   -- A loop whose condition has n lanes and whose body runs under C′.
   module _ (p n C′ : ℕ) (e : Code) (s : Program) (m₀ : Mask) (v : (M : Memory) → Has-value m₀ M e n) (g : Goes C′ s) where
@@ -110,7 +110,7 @@ module _ (Γ : Declarations) where
         still = rw (long, ← j) (joined-again n (length m))
 
         turn : Run Memory
-        turn m b M = and-then (exec Γ s m b M) (turns Γ k p e s m₀ m)
+        turn m b M = and-then (program-run Γ s m b M) (turns Γ k p e s m₀ m)
 
         at : (t : Bool) → some-lane (m ∩ c) ≡ t → ByRules (Loop Γ p e s m₀ m M) (suc b) (unless-empty turn (m ∩ c) b M)
         at false x = rw (skips turn (m ∩ c) b M x) (ends 1 b (R-LEAVE (w .derived) fit x) (omega arith))
@@ -141,7 +141,7 @@ module _ (Γ : Declarations) where
     unfolding run effect
     step-goes p = record { by-rules = λ m M b l a. at b }
       where
-        at : {m : Mask} {M : Memory} (b : ℕ) → ByRules (λ r n. Γ ∣ m ∣ M ▹ step p ↓ r after n) b (exec Γ (step p) m b M)
+        at : {m : Mask} {M : Memory} (b : ℕ) → ByRules (λ r n. Γ ∣ m ∣ M ▹ step p ↓ r after n) b (program-run Γ (step p) m b M)
         at zero = spends (R-DUE step-costs)
         at (suc b) = ends 1 b R-DECL (omega arith)
 
@@ -151,7 +151,7 @@ module _ (Γ : Declarations) where
     put-goes {p} {x} {n} {e} v f t = record { by-rules = at }
       where
         at : (m : Mask) (M : Memory) (b : ℕ) → length m ≡ C → some-lane m ≡ true →
-            ByRules (λ r n. Γ ∣ m ∣ M ▹ put p x e ↓ r after n) b (exec Γ (put p x e) m b M)
+            ByRules (λ r n. Γ ∣ m ∣ M ▹ put p x e ↓ r after n) b (program-run Γ (put p x e) m b M)
         at m M zero l a = spends (R-DUE put-costs)
         at m M (suc b) l a =
             let w = v m M l in
@@ -161,7 +161,7 @@ module _ (Γ : Declarations) where
     both-goes {s} {t} g h = record {
       by-rules = λ m M b l a.
           rw (run-both Γ m b M s t)
-          (rules-after (exec Γ t m)
+          (rules-after (program-run Γ t m)
           (λ _ _ _ _ d d′. R-SEQUENCE (R-ACTIVE a d) (R-ACTIVE a d′))
           (λ _ _ _ d. R-SEQUENCE-DUE (R-ACTIVE a d))
           (g .by-rules m M b l a)
@@ -175,15 +175,15 @@ module _ (Γ : Declarations) where
     choice-goes {p} {n} {e} {s} {t} v f g h = record { by-rules = at }
       where
         at : (m : Mask) (M : Memory) (b : ℕ) → length m ≡ C → some-lane m ≡ true →
-            ByRules (λ r n. Γ ∣ m ∣ M ▹ choice p e s t ↓ r after n) b (exec Γ (choice p e s t) m b M)
+            ByRules (λ r n. Γ ∣ m ∣ M ▹ choice p e s t ↓ r after n) b (program-run Γ (choice p e s t) m b M)
         at m M zero l a = spends (R-DUE choice-costs)
         at m M (suc b) l a =
             let w = v m M l in
             let c = w .lanes in
             let fit : Match (length m) (length c) = rw (l, w .long) f in
-            rw (has-value Γ (w .derived), branches-as-rule m a (exec Γ s) (exec Γ t) c b M)
+            rw (has-value Γ (w .derived), branches-as-rule m a (program-run Γ s) (program-run Γ t) c b M)
             (one-more (λ _ _ d. d)
-            (rules-after (λ b′ M′. unless-empty (exec Γ t) (m ∖ c) b′ M′)
+            (rules-after (λ b′ M′. unless-empty (program-run Γ t) (m ∖ c) b′ M′)
             (λ _ _ _ _ d d′. R-IF (w .derived) fit d d′)
             (λ _ _ _ d. R-IF-DUE (w .derived) fit d)
             (branch-goes g (m ∩ c) M b (length-first m c fit ∙ rw (w .long, l)))

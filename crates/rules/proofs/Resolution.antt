@@ -5,14 +5,18 @@ use mathlib.Core.Bool.{Bool, true, true≢false}
 use mathlib.Core.Option.{none, some}
 use Rattle.meaning.specs.declared.Kind.{Kind}
 use Rattle.meaning.specs.declared.Kind.the-variants.{Int as int, Bool as bool}
-use Rattle.meaning.specs.Tree.{Name, Unary, Binary, table, Expr, number, boolean, name, current-mask, unary, binary, Block, Stmt, empty, braces, declare, assign, if-else, while, scalar, Stmts, none-yet, _⨾_}
+use Rattle.meaning.specs.declared.Unary.{Unary}
+use Rattle.meaning.specs.declared.Binary.{Binary}
+use Rattle.meaning.specs.Tree.{Name, table, Expr, number, boolean, name, current-mask, unary, binary, Block, Stmt, empty, braces, declare, assign, if-else, while, scalar, Stmts, none-yet, _⨾_}
 use Rattle.meaning.specs.Program.{Code, constant, variable, the-mask, one, two, Program, nothing, step, put, both, choice, cycle, alone}
 use Rattle.meaning.specs.Memory.{Memory, Value, Mask, Declarations, declared, bit}
 use Rattle.meaning.specs.Running.{some-lane}
 use Rattle.meaning.specs.Typing.{gives-kind}
+use Rattle.rules.specs.Operators.{_takes_, _takes-two_gives_}
 use Rattle.rules.specs.Scopes.{Scope, _means_, beyond, past-all, declarations}
 use Rattle.rules.specs.Evaluation
 use Rattle.rules.specs.Evaluation.{_∣_∣_⊢_⇒⟨_∣_⟩, E-NUMBER, E-BOOLEAN, E-VAR, E-MASK, E-UNARY, E-BINARY, E-ASSIGN, E-BROADCAST, End, empty-costs, declare-costs, assign-costs, if-costs, _∣_∣_⊢_⇓_after_, _∣_∣_⊢_↓_after_, _∣_∣_⊢*_↓_after_, E-SKIP, E-SCOPE, E-DECL, E-INIT, E-STORE, E-IF, E-WHILE, E-SCALAR, DUE, IF-DUE, E-NONE, E-SEQUENCE, SEQUENCE-DUE, E-INACTIVE, E-ACTIVE, While, LEAVE, AGAIN, TEST-DUE, BODY-DUE}
+use Rattle.rules.proofs.Operators.{in-table}
 use Rattle.rules.proofs.Programs.{the-number, kind, code, program, programs, past-all-table}
 use Rattle.rules.proofs.Resolved.{_∣_∣_▹_⇒_, R-CONST, R-VAR, R-MASK, R-UNARY, R-BINARY, step-costs, put-costs, choice-costs, _∣_∣_▹_⇓_after_, R-INACTIVE, R-ACTIVE, _∣_∣_▹_↓_after_, R-NOTHING, R-DECL, R-ASSIGN, R-BROADCAST, R-SEQUENCE, R-IF, R-WHILE, R-SCALAR, R-DUE, R-SEQUENCE-DUE, R-IF-DUE, Loop, R-LEAVE, R-AGAIN, R-TEST-DUE, R-BODY-DUE}
 
@@ -76,22 +80,22 @@ module _ {σ : Scope} where
       from : From-value σ current-mask the-mask bool
       from m M v R-MASK = E-MASK
 
-  pub same-unary : {p : ℕ} {o : Unary} {e : Expr} {c : Code} {k : Kind} → Same-value σ e c k →
+  pub same-unary : {p : ℕ} {o : Unary} {e : Expr} {c : Code} {k : Kind} → o takes k → Same-value σ e c k →
       Same-value σ (unary p o e) (one p k o c) k
   unfolding kind code
-  same-unary {p} {o} {e} {c} {k} s = record { is-kind = s .is-kind; is-code = rw (s .is-kind, s .is-code); from = from }
+  same-unary {p} {o} {e} {c} {k} t s = record { is-kind = s .is-kind; is-code = rw (s .is-kind, s .is-code); from = from }
     where
       from : From-value σ (unary p o e) (one p k o c) k
-      from m M v (R-UNARY d) = E-UNARY (s .from _ _ _ d)
+      from m M v (R-UNARY d) = E-UNARY t (s .from _ _ _ d)
 
-  pub same-binary : {p : ℕ} {o : Binary} {e e′ : Expr} {c c′ : Code} {k : Kind} → Same-value σ e c k → Same-value σ e′ c′ k →
-      Same-value σ (binary p o e e′) (two p k o c c′) (gives-kind ((table o) .2) k)
+  pub same-binary : {p : ℕ} {o : Binary} {e e′ : Expr} {c c′ : Code} {k l : Kind} → o takes-two k gives l →
+      Same-value σ e c k → Same-value σ e′ c′ k → Same-value σ (binary p o e e′) (two p k o c c′) l
   unfolding kind code
-  same-binary {p} {o} {e} {e′} {c} {c′} {k} s s′ =
-      record { is-kind = rw (s .is-kind); is-code = rw (s .is-kind, s .is-code, s′ .is-code); from = from }
+  same-binary {p} {o} {e} {e′} {c} {c′} {k} {l} t s s′ =
+      record { is-kind = sym (in-table t .1) ∙ ap (gives-kind ((table o) .2)) (s .is-kind); is-code = rw (s .is-kind, s .is-code, s′ .is-code); from = from }
     where
-      from : From-value σ (binary p o e e′) (two p k o c c′) (gives-kind ((table o) .2) k)
-      from m M v (R-BINARY d d′ f) = E-BINARY (s .from _ _ _ d) (s′ .from _ _ _ d′) f
+      from : From-value σ (binary p o e e′) (two p k o c c′) l
+      from m M v (R-BINARY d d′ f) = E-BINARY t (s .from _ _ _ d) (s′ .from _ _ _ d′) f
 
 -- What is run under a mask with an active lane, and what is run as a branch.
 active : {Γ : Declarations} {m : Mask} {M : Memory} {P : Program} {r : End} {n : ℕ} → some-lane m ≡ true →

@@ -6,7 +6,8 @@ use mathlib.Core.Bool.{true, false}
 use mathlib.Core.List.{[], _∷_, map}
 use lib.ListN.{length, replicate}
 use Rattle.meaning.specs.declared.Kind.{Kind}
-use Rattle.meaning.specs.Tree.{Unary, Binary}
+use Rattle.meaning.specs.declared.Unary.{Unary}
+use Rattle.meaning.specs.declared.Binary.{Binary}
 use Rattle.meaning.specs.Program.{Code, constant, variable, the-mask, one, two, Program, nothing, step, put, both, choice, cycle, alone}
 use Rattle.meaning.specs.Memory.{Memory, Value, Mask, Declarations, declared, fetch, update, bit}
 use Rattle.meaning.specs.Running.{unary-of, binary-of, lanewise, some-lane}

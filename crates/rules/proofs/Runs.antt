@@ -15,14 +15,14 @@ use Rattle.meaning.specs.Program.{Program}
 use Rattle.meaning.specs.Memory.{Memory, Mask, Declarations, need}
 use Rattle.meaning.specs.Running.{Ran, stopped, done, some-lane}
 use Rattle.meaning.specs.Typing.{typed-statements}
-use Rattle.meaning.specs.Services.{answer, judged, executed, ended as outcome, run}
+use Rattle.meaning.specs.Services.{answer, judged, program-run, executed, ended as outcome, run}
 use Rattle.rules.specs.Scopes.{start}
 use Rattle.rules.specs.Evaluation.{End, ended, due, _∣_∣_⊢*_↓_after_, NotStuck, it-ends, it-spends}
 use Rattle.rules.specs.Accepted.{Accepted, Placed}
 use Rattle.rules.specs.Ends.{Ends}
 use Rattle.rules.proofs.Resolved.{R-ACTIVE}
 use Rattle.rules.proofs.Masks.{runs}
-use Rattle.rules.proofs.Derived.{as-run, exec, answers, Left}
+use Rattle.rules.proofs.Derived.{as-run, answers, Left}
 use Rattle.rules.proofs.Progress.{ByRules, ends, spends, to-rules}
 use Rattle.rules.proofs.Acceptance.{refusal-above-0, passed, placed-judged, tree-typed, placed}
 use Rattle.rules.proofs.Sound.{goes}
@@ -33,18 +33,18 @@ use Rattle.rules.proofs.Trees.{resolved}
 module _ (l : Stmts) (C : ℕ) (Γ : Declarations) (P : Program) (typed : typed-statements C l [] ≡ ok P Γ)
     (m : Mask) (long : length m ≡ C) (active : some-lane m ≡ true) (M : Memory) where
   -- What is run goes by the rules, and what the rules derive is what is run.
-  goes-on : (budget : ℕ) → ByRules (λ r n. start Γ ∣ m ∣ M ⊢* l ↓ r after n) budget (exec Γ P m budget M)
+  goes-on : (budget : ℕ) → ByRules (λ r n. start Γ ∣ m ∣ M ⊢* l ↓ r after n) budget (program-run Γ P m budget M)
   unfolding start
   goes-on budget =
       to-rules (λ r n d. (resolved l C Γ P typed) .from m M r n active d)
       ((goes l C [] Γ P typed) .by-rules m M budget long active)
 
   derived : (budget n b : ℕ) (r : End) → start Γ ∣ m ∣ M ⊢* l ↓ r after n → n + b ≡ budget → Left r b →
-      exec Γ P m budget M ≡ answers r b
+      program-run Γ P m budget M ≡ answers r b
   unfolding start
   derived budget n b r d e left =
       rw (← e)
-      (sym (runs (exec Γ P) m (n + b) M active)
+      (sym (runs (program-run Γ P) m (n + b) M active)
       ∙ (as-run Γ (R-ACTIVE active (rw (← (resolved l C Γ P typed) .is) at (to-programs d active)))) .is b left)
 
   -- "VecIMP's type system is sound" (001, Theorem 2): typed statements never lack a rule.
@@ -58,16 +58,16 @@ module _ (l : Stmts) (C : ℕ) (Γ : Declarations) (P : Program) (typed : typed-
 -- An accepted text with room for its declarations.
 module _ (text : List ℕ) (tree : Stmts) (Γ : Declarations) (p : Placed text tree Γ) (M : Memory) (room : need Γ ≤ length M) where
   by-rules : (budget : ℕ) →
-      ByRules (λ r n. start Γ ∣ true ∷ [] ∣ M ⊢* tree ↓ r after n) budget (exec Γ (p .program) (true ∷ []) budget M)
+      ByRules (λ r n. start Γ ∣ true ∷ [] ∣ M ⊢* tree ↓ r after n) budget (program-run Γ (p .program) (true ∷ []) budget M)
   unfolding some-lane
   by-rules budget = goes-on tree 1 Γ (p .program) (tree-typed text tree Γ p) (true ∷ []) refl refl M budget
 
   as-derived : (budget n b : ℕ) (r : End) → start Γ ∣ true ∷ [] ∣ M ⊢* tree ↓ r after n → n + b ≡ budget → Left r b →
-      exec Γ (p .program) (true ∷ []) budget M ≡ answers r b
+      program-run Γ (p .program) (true ∷ []) budget M ≡ answers r b
   unfolding some-lane
   as-derived = derived tree 1 Γ (p .program) (tree-typed text tree Γ p) (true ∷ []) refl refl M
 
-  run-is : (budget : ℕ) → run text M budget ≡ outcome (need Γ) budget (exec Γ (p .program) (true ∷ []) budget M)
+  run-is : (budget : ℕ) → run text M budget ≡ outcome (need Γ) budget (program-run Γ (p .program) (true ∷ []) budget M)
   unfolding run executed
   run-is budget = rw (placed-judged text tree Γ p, le-leb (need Γ) (length M) room)
 
@@ -87,7 +87,7 @@ module _ (text : List ℕ) (tree : Stmts) (Γ : Declarations) (p : Placed text t
       from (spends d) h = let code : _≡_ {A = ℕ} 13 0 = ap (λ a. (a .0) .code) h in absurd (omega arith)
 
       to : n ≤ budget → start Γ ∣ true ∷ [] ∣ M ⊢* tree ↓ ended M′ after n →
-          outcome (need Γ) budget (exec Γ (p .program) (true ∷ []) budget M) ≡ (answer 0 0 (need Γ) n, M′)
+          outcome (need Γ) budget (program-run Γ (p .program) (true ∷ []) budget M) ≡ (answer 0 0 (need Γ) n, M′)
       to l d =
           let steps : budget - (budget - n) ≡ n = omega arith in
           rw (as-derived budget n (budget - n) (ended M′) d (omega arith) tt, steps)
@@ -105,17 +105,17 @@ module _ (text : List ℕ) (tree : Stmts) (Γ : Declarations) (p : Placed text t
       from (spends d) h = rw (ap (λ a. a .1) h, ap (λ a. (a .0) .place) h) at d
 
       to : start Γ ∣ true ∷ [] ∣ M ⊢* tree ↓ due place M′ after budget →
-          outcome (need Γ) budget (exec Γ (p .program) (true ∷ []) budget M) ≡ (answer 13 place (need Γ) budget, M′)
+          outcome (need Γ) budget (program-run Γ (p .program) (true ∷ []) budget M) ≡ (answer 13 place (need Γ) budget, M′)
       to d = let steps : budget - 0 ≡ budget = omega arith in rw (as-derived budget budget 0 (due place M′) d (omega arith) refl, steps)
 
 -- A run ends with code 0 exactly when the rules derive it: any text, over any memory, with any budget.
 module _ (text : List ℕ) (M : Memory) (budget N n : ℕ) (M′ : Memory) where
-  executed-is : run text M budget ≡ executed M budget (judged text)
+  executed-is : run text M budget ≡ executed program-run M budget (judged text)
   unfolding run
   executed-is = refl
 
   -- The memory has room for an accepted text that ends with 0.
-  has-room : (P : Program) (Γ : Declarations) → executed M budget (ok P Γ) ≡ (answer 0 0 N n, M′) →
+  has-room : (P : Program) (Γ : Declarations) → executed program-run M budget (ok P Γ) ≡ (answer 0 0 N n, M′) →
       (need Γ ≤ length M) × (need Γ ≡ N)
   unfolding executed answer outcome
   has-room P Γ h = go (leb (need Γ) (length M)) refl
@@ -125,14 +125,14 @@ module _ (text : List ℕ) (M : Memory) (budget N n : ℕ) (M′ : Memory) where
       given (done M₁ left) e = ap (λ a. (a .0) .need) e
 
       go : (t : Bool) → leb (need Γ) (length M) ≡ t → (need Γ ≤ length M) × (need Γ ≡ N)
-      go true l = (leb-true (need Γ) (length M) l, given (exec Γ P (true ∷ []) budget M) (rw l at h))
+      go true l = (leb-true (need Γ) (length M) l, given (program-run Γ P (true ∷ []) budget M) (rw l at h))
       go false l = let code : _≡_ {A = ℕ} 12 0 = ap (λ a. (a .0) .code) (rw l at h) in absurd (omega arith)
 
   pub ends-exactly : run text M budget ≡ (answer 0 0 N n, M′) ↔ ((n ≤ budget) × Ends text M N n M′)
   unfolding executed answer
   ends-exactly = (λ h. from (judged text) refl (sym executed-is ∙ h) h, λ d. to (d .0) (d .1))
     where
-      from : (o : Out Declarations Program) → judged text ≡ o → executed M budget o ≡ (answer 0 0 N n, M′) →
+      from : (o : Out Declarations Program) → judged text ≡ o → executed program-run M budget o ≡ (answer 0 0 N n, M′) →
           run text M budget ≡ (answer 0 0 N n, M′) → (n ≤ budget) × Ends text M N n M′
       from (refused c p) j e h = absurd (refusal-above-0 c (ap (λ a. (a .0) .code) e))
       from (ok P Γ) j e h =

@@ -8,25 +8,24 @@ use native.Mathlib.Omega.{arith}
 use lib.ListN.{length}
 use borrow.Author.Tests.{lt-ltb}
 use Rattle.meaning.specs.declared.Kind.{Kind}
-use Rattle.meaning.specs.declared.Kind.the-variants.{Int as int, Bool as bool}
+use Rattle.meaning.specs.declared.Kind.the-variants.{Bool as bool}
 use Rattle.meaning.specs.declared.Refusal.the-variants.{UnknownName, WrongKind, WrongLength}
 use Rattle.meaning.specs.Codes.{ok, check, refuse, give, option, _>>=_, _>>_, lengths, declaration-limit}
-use Rattle.meaning.specs.Tree.{Name, kind-number, same-kind, _one-of_, Binary, table, unary-table, Expr, number, Block, Stmt, empty, braces, declare, assign, if-else, while, scalar, Stmts, none-yet, _⨾_}
+use Rattle.meaning.specs.declared.Binary.{Binary}
+use Rattle.meaning.specs.Tree.{Name, same-kind, _one-of_, table, unary-table, Expr, number, Block, Stmt, empty, braces, declare, assign, if-else, while, scalar, Stmts, none-yet, _⨾_}
 use Rattle.meaning.specs.Program.{two}
 use Rattle.meaning.specs.Memory.{Declared, Declarations, declared}
 use Rattle.meaning.specs.Typing.{Typed, accepts, gives-kind, match, fits, find, variable-named, typed, typed-condition, storable, declare-name, good-block, lanes-or, typed-declaration, with-one, scope, typed-statement, typed-statements, joined}
 use Rattle.rules.specs.Lengths.{Match, Target, Fills, whole, broadcast}
+use Rattle.rules.specs.Operators.{_takes-two_gives_}
 use Rattle.rules.specs.Scopes.{declarations, declarations-in}
 use Rattle.rules.specs.Typing.{Names, _at_, Listed, no-block, block, _∣_⊢_∶⟨_∣_⟩, T-NUMBER, T-BOOLEAN, T-VAR, T-MASK, T-UNARY, T-BINARY, _∣_⊢_⊣_, T-SKIP, T-SCOPE, T-DECL, T-INIT, T-ASSIGN, T-BROADCAST, T-IF, T-WHILE, T-SCALAR, _∣_⊢*_⊣_, T-NONE, T-SEQUENCE}
-use Rattle.rules.proofs.Acts.{Succeeds, yes, Keeps, next, keeping, also}
+use Rattle.laws.specs.Outcomes.{well, Succeeds, Still}
+use Rattle.laws.proofs.Outcomes.{followed, keeping, also}
+use Rattle.rules.proofs.Operators.{same-as-itself, in-unary-table, in-table}
 use Rattle.rules.proofs.Lengths.{match-fits, does-match, not-narrow, target-match, does-fill}
 use Rattle.rules.proofs.Names.{opens, opens-with-one, Found, missing, number as found, finds}
 use Rattle.rules.proofs.Typed.{counted, in-scope, Branch, stated-by-rules, sequence-by-rules}
-
-same-as-itself : (k : Kind) → same-kind k k ≡ true
-unfolding same-kind kind-number
-same-as-itself int = refl
-same-as-itself bool = refl
 
 -- A variable, or a value, of a kind and a length.
 record Of (k : Kind) (n : ℕ) (kind : Kind) (lanes : ℕ) : Type 0 where
@@ -35,12 +34,12 @@ record Of (k : Kind) (n : ℕ) (kind : Kind) (lanes : ℕ) : Type 0 where
 
 -- A name that is open.
 known : (C p : ℕ) (x : Name) (Γ : Declarations) (k : Kind) (n : ℕ) → opens Γ at x ≡ some (k, n) → Match C n →
-    Succeeds (Keeps Γ (λ (v : ℕ × Declared). Of k n ((v .1) .kind) ((v .1) .lanes))) (variable-named C p x Γ)
+    Succeeds (Still Γ (λ (v : ℕ × Declared). Of k n ((v .1) .kind) ((v .1) .lanes))) (variable-named C p x Γ)
 unfolding variable-named
 known C p x Γ k n e m = go (find x 0 Γ) (finds x 0 Γ)
   where
     go : (o : Option ℕ) → Found x 0 Γ o →
-        Succeeds (Keeps Γ (λ (v : ℕ × Declared). Of k n ((v .1) .kind) ((v .1) .lanes))) (option (refuse UnknownName p) (λ i. do
+        Succeeds (Still Γ (λ (v : ℕ × Declared). Of k n ((v .1) .kind) ((v .1) .lanes))) (option (refuse UnknownName p) (λ i. do
           let d = declared Γ i
           check (fits C (d .lanes)) WrongLength p
           give (i, d)) o Γ)
@@ -51,12 +50,12 @@ known C p x Γ k n e m = go (find x 0 Γ) (finds x 0 Γ)
         let same : _≡_ {A = Kind × ℕ} ((declared Γ i) .kind, (declared Γ i) .lanes) (k, n) = cc in
         let lanes : (declared Γ i) .lanes ≡ n = ap (λ t. t .1) same in
         let test : fits C ((declared Γ i) .lanes) ≡ true = rw lanes (match-fits C n m) in
-        rw test (yes (refl, record { kinds = ap (λ t. t .0) same; lengths = lanes }))
+        rw test (well (refl, record { kinds = ap (λ t. t .0) same; lengths = lanes }))
 
 -- An operator whose operands are typed, from the test of their kinds on.
 operates : {n n′ : ℕ} {k l : Kind} {Γ : Declarations} (p : ℕ) (o : Binary) (a b : Typed) → Of k n (a .kind) (a .lanes) →
-    Of l n′ (b .kind) (b .lanes) → accepts ((table o) .1) k l ≡ true → Match n n′ →
-    Succeeds (Keeps Γ (λ (c : Typed). Of (gives-kind ((table o) .2) k) (joined n n′) (c .kind) (c .lanes))) ((do
+    Of k n′ (b .kind) (b .lanes) → o takes-two k gives l → Match n n′ →
+    Succeeds (Still Γ (λ (c : Typed). Of l (joined n n′) (c .kind) (c .lanes))) ((do
       check (accepts ((table o) .1) (a .kind) (b .kind)) WrongKind p
       check (match (a .lanes) (b .lanes)) WrongLength p
       give (record {
@@ -64,39 +63,40 @@ operates : {n n′ : ℕ} {k l : Kind} {Γ : Declarations} (p : ℕ) (o : Binary
         kind = gives-kind ((table o) .2) (a .kind);
         lanes = joined (a .lanes) (b .lanes);
       })) Γ)
-operates {n} {n′} p o a b h h′ t m =
-    let kinds : accepts ((table o) .1) (a .kind) (b .kind) ≡ true = rw (h .kinds, h′ .kinds) t in
+unfolding accepts
+operates {n} {n′} {k} p o a b h h′ t m =
+    let kinds : accepts ((table o) .1) (a .kind) (b .kind) ≡ true = rw (h .kinds, h′ .kinds, in-table t .0, same-as-itself k) refl in
     let lanes : match (a .lanes) (b .lanes) ≡ true = rw (h .lengths, h′ .lengths) (does-match n n′ m) in
     rw (kinds, lanes)
-    (yes (refl, record { kinds = ap (gives-kind ((table o) .2)) (h .kinds); lengths = ap₂ joined (h .lengths) (h′ .lengths) }))
+    (well (refl, record { kinds = ap (gives-kind ((table o) .2)) (h .kinds) ∙ in-table t .1; lengths = ap₂ joined (h .lengths) (h′ .lengths) }))
 
 -- An expression that the rules type.
 type-known : {N : Names} {C n : ℕ} {e : Expr} {k : Kind} → N ∣ C ⊢ e ∶⟨ k ∣ n ⟩ → (Γ : Declarations) → opens Γ ≡ N →
-    Succeeds (Keeps Γ (λ a. Of k n (a .kind) (a .lanes))) (typed C e Γ)
+    Succeeds (Still Γ (λ a. Of k n (a .kind) (a .lanes))) (typed C e Γ)
 unfolding typed accepts
-type-known T-NUMBER Γ o = yes (refl, record { kinds = refl; lengths = refl })
-type-known T-BOOLEAN Γ o = yes (refl, record { kinds = refl; lengths = refl })
+type-known T-NUMBER Γ o = well (refl, record { kinds = refl; lengths = refl })
+type-known T-BOOLEAN Γ o = well (refl, record { kinds = refl; lengths = refl })
 type-known {C} (T-VAR {p = p} {x = x} {k = k} {n = n} e m) Γ o =
     keeping _ (known C p x Γ k n (rw o e) m) (λ v h.
-    yes (refl, record { kinds = h .kinds; lengths = h .lengths }))
-type-known T-MASK Γ o = yes (refl, record { kinds = refl; lengths = refl })
+    well (refl, record { kinds = h .kinds; lengths = h .lengths }))
+type-known T-MASK Γ o = well (refl, record { kinds = refl; lengths = refl })
 type-known (T-UNARY {o = u} t d) Γ o =
     keeping _ (type-known d Γ o) (λ a h.
-    let takes : a .kind one-of (unary-table u) .1 ≡ true = rw (h .kinds) t in
-    rw takes (yes (refl, record { kinds = h .kinds; lengths = h .lengths })))
-type-known (T-BINARY {p = p} {o = u} {k = k} t d d′ m) Γ o =
+    let kinds : a .kind one-of (unary-table u) .1 ≡ true = rw (h .kinds) (in-unary-table t) in
+    rw kinds (well (refl, record { kinds = h .kinds; lengths = h .lengths })))
+type-known (T-BINARY {p = p} {o = u} t d d′ m) Γ o =
     keeping _ (type-known d Γ o) (λ a h.
     keeping _ (type-known d′ Γ o) (λ b h′.
-    operates p u a b h h′ (rw (t, same-as-itself k) refl) m))
+    operates p u a b h h′ t m))
 
 -- A condition.
 condition-known : {N : Names} {C n : ℕ} {e : Expr} → N ∣ C ⊢ e ∶⟨ bool ∣ n ⟩ → (p : ℕ) (Γ : Declarations) → opens Γ ≡ N →
-    Succeeds (Keeps Γ (λ (a : Typed). a .lanes ≡ n)) (typed-condition C p e Γ)
+    Succeeds (Still Γ (λ (a : Typed). a .lanes ≡ n)) (typed-condition C p e Γ)
 unfolding typed-condition
 condition-known d p Γ o =
     keeping _ (type-known d Γ o) (λ a h.
     let test : same-kind (a .kind) bool ≡ true = rw (h .kinds) (same-as-itself bool) in
-    rw test (yes (refl, h .lengths)))
+    rw test (well (refl, h .lengths)))
 
 -- A value for a target.
 fits-target : {C l : ℕ} (p : ℕ) (k : Kind) (n : ℕ) (a : Typed) (Γ : Declarations) → Of k l (a .kind) (a .lanes) → Fills l n →
@@ -133,21 +133,21 @@ branch-known : {C : ℕ} {s : Stmt} {N N′ : Names} → Typable C s N N′ → 
     length Γ + declarations s ≤ declaration-limit → Succeeds (Branch s C Γ) (scope (typed-statement C s) Γ)
 unfolding scope
 branch-known {C} {s} a Γ o r =
-    next _ (also (a .act Γ o r) (stated-by-rules s C Γ)) (λ P Γ′ h.
-    yes (in-scope (λ N. opens Γ ∣ C ⊢ s ⊣ N) (h .1 .declares) (h .1 .types)))
+    followed _ (also (a .act Γ o r) (stated-by-rules s C Γ)) (λ P Γ′ h.
+    well (in-scope (λ N. opens Γ ∣ C ⊢ s ⊣ N) (h .1 .declares) (h .1 .types)))
 
 -- A law for each rule.
 module _ {C p : ℕ} {N : Names} where
   skips : Typable C (empty p) N N
   unfolding typed-statement
-  skips = record { act = λ Γ o r. yes o }
+  skips = record { act = λ Γ o r. well o }
 
   scopes : {N′ : Names} {l : Stmts} → Typable-all C l N N′ → Typable C (braces p l) N N
   unfolding typed-statement declarations scope
   scopes {l} a = record {
     act = λ Γ o r.
-        next _ (also (a .act Γ o r) (sequence-by-rules l C Γ)) (λ P Γ′ h.
-        yes ((in-scope (λ N. opens Γ ∣ C ⊢* l ⊣ N) (h .1 .declares) (h .1 .types)) .closed ∙ o));
+        followed _ (also (a .act Γ o r) (sequence-by-rules l C Γ)) (λ P Γ′ h.
+        well ((in-scope (λ N. opens Γ ∣ C ⊢* l ⊣ N) (h .1 .declares) (h .1 .types)) .closed ∙ o));
   }
 
   declares : {q : ℕ} {k : Kind} {b : Block} {x : Name} → Listed b → Match C (lanes-or 1 b) → N at x ≡ none →
@@ -157,7 +157,7 @@ module _ {C p : ℕ} {N : Names} where
     act = λ Γ o r.
         let n = lanes-or 1 b in
         rw (good Γ g, name-new C k n q x Γ m (rw o e) (omega arith))
-        (yes (opens-with-one k n q x Γ ∙ rw o));
+        (well (opens-with-one k n q x Γ ∙ rw o));
   }
 
   inits : {q l : ℕ} {k : Kind} {b : Block} {x : Name} {e : ℕ × Expr} → Listed b → N ∣ C ⊢ e .1 ∶⟨ k ∣ l ⟩ →
@@ -171,7 +171,7 @@ module _ {C p : ℕ} {N : Names} where
         let n = lanes-or l b in
         let lanes : lanes-or (a .lanes) b ≡ n = ap (λ i. lanes-or i b) (h .lengths) in
         rw (lanes, fits-target (e .0) k n a Γ h f t, name-new C k n q x Γ (target-match C n t) (rw o new) (omega arith))
-        (yes (opens-with-one k n q x Γ ∙ rw o))));
+        (well (opens-with-one k n q x Γ ∙ rw o))));
   }
 
   assigns : {q n l : ℕ} {k : Kind} {x : Name} {e : Expr} → N at x ≡ some (k, n) → N ∣ C ⊢ e ∶⟨ k ∣ l ⟩ → Fills l n → Target C n →
@@ -181,7 +181,7 @@ module _ {C p : ℕ} {N : Names} where
     act = λ Γ o r.
         keeping _ (known C p x Γ k n (rw o h) (target-match C n t)) (λ v i.
         keeping _ (type-known d Γ o) (λ a j.
-        rw (i .kinds, i .lengths, fits-target q k n a Γ j f t) (yes o)));
+        rw (i .kinds, i .lengths, fits-target q k n a Γ j f t) (well o)));
   }
 
   ifs : {N₁ N₂ : Names} {l : ℕ} {e : Expr} {s t : Stmt} → N ∣ C ⊢ e ∶⟨ bool ∣ l ⟩ → Typable (joined l C) s N N₁ →
@@ -191,10 +191,10 @@ module _ {C p : ℕ} {N : Names} where
     act = λ Γ o r.
         keeping _ (condition-known d p Γ o) (λ c h.
         rw h
-        (next _ (branch-known a Γ o (omega arith)) (λ P Γ₁ i.
+        (followed _ (branch-known a Γ o (omega arith)) (λ P Γ₁ i.
         let n = counted (i .declares) in
-        next _ (branch-known b Γ₁ (i .closed ∙ o) (omega arith)) (λ P′ Γ₂ j.
-        yes (j .closed ∙ (i .closed ∙ o))))));
+        followed _ (branch-known b Γ₁ (i .closed ∙ o) (omega arith)) (λ P′ Γ₂ j.
+        well (j .closed ∙ (i .closed ∙ o))))));
   }
 
   whiles : {N′ : Names} {l : ℕ} {e : Expr} {s : Stmt} → N ∣ C ⊢ e ∶⟨ bool ∣ l ⟩ → Typable (joined l C) s N N′ →
@@ -204,27 +204,27 @@ module _ {C p : ℕ} {N : Names} where
     act = λ Γ o r.
         keeping _ (condition-known d p Γ o) (λ c h.
         rw h
-        (next _ (branch-known a Γ o r) (λ P Γ₁ i.
-        yes (i .closed ∙ o))));
+        (followed _ (branch-known a Γ o r) (λ P Γ₁ i.
+        well (i .closed ∙ o))));
   }
 
   scalars : {N′ : Names} {s : Stmt} → Typable 1 s N N′ → Typable C (scalar p s) N N
   unfolding typed-statement declarations
-  scalars a = record { act = λ Γ o r. next _ (branch-known a Γ o r) (λ P Γ₁ i. yes (i .closed ∙ o)) }
+  scalars a = record { act = λ Γ o r. followed _ (branch-known a Γ o r) (λ P Γ₁ i. well (i .closed ∙ o)) }
 
 module _ {C : ℕ} {N : Names} where
   nones : Typable-all C none-yet N N
   unfolding typed-statement
-  nones = record { act = λ Γ o r. yes o }
+  nones = record { act = λ Γ o r. well o }
 
   sequences : {N₁ N₂ : Names} {l : Stmts} {s : Stmt} → Typable-all C l N N₁ → Typable C s N₁ N₂ → Typable-all C (l ⨾ s) N N₂
   unfolding typed-statement declarations
   sequences {l} a b = record {
     act = λ Γ o r.
-        next _ (also (a .act Γ o (omega arith)) (sequence-by-rules l C Γ)) (λ P Γ₁ h.
+        followed _ (also (a .act Γ o (omega arith)) (sequence-by-rules l C Γ)) (λ P Γ₁ h.
         let n = counted (h .1 .declares) in
-        next _ (b .act Γ₁ (h .0) (omega arith)) (λ P′ Γ₂ j.
-        yes j));
+        followed _ (b .act Γ₁ (h .0) (omega arith)) (λ P′ Γ₂ j.
+        well j));
   }
 
 -- What the rules type.

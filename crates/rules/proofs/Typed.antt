@@ -1,7 +1,7 @@
 -- What `meaning` types, the rules type; and the declarations that it leaves are those before it and one for each of the tree.
 use Prim.Native.Nat.{ℕ, _+_, _<_, _≤_}
 use mathlib.Core.Path.{_≡_, refl, ap, sym, _∙_}
-use mathlib.Core.Bool.{Bool, true, false, _||_, not, and-eq-true-iff, false≢true}
+use mathlib.Core.Bool.{Bool, true, false, _||_, not, false≢true}
 use mathlib.Core.List.{[], _++_, map, append-assoc, append-nil}
 use mathlib.Core.Option.{Option, none, some}
 use native.Mathlib.Omega.{arith}
@@ -10,26 +10,21 @@ use lib.ListN.{length, take, drop, length-append, length-map}
 use borrow.Author.Tests.{ltb-true}
 use lib.Seq.{take-append-seam, drop-append-seam}
 use Rattle.meaning.specs.declared.Kind.{Kind}
-use Rattle.meaning.specs.declared.Kind.the-variants.{Int as int, Bool as bool}
+use Rattle.meaning.specs.declared.Kind.the-variants.{Bool as bool}
 use Rattle.meaning.specs.declared.Refusal.the-variants.{UnknownName, AlreadyOpen, LengthNotListed, WrongKind, WrongLength, LengthOneTarget, TooManyDeclarations}
 use Rattle.meaning.specs.Codes.{after, check, option, refuse, give, _>>=_, _>>_, _among_, lengths, declaration-limit}
-use Rattle.meaning.specs.Tree.{Name, kind-number, same-kind, _one-of_, Binary, table, unary-table, Expr, number, boolean, name, current-mask, unary, binary, Block, Stmt, empty, braces, declare, assign, if-else, while, scalar, Stmts, none-yet, _⨾_}
+use Rattle.meaning.specs.Tree.{Name, same-kind, _one-of_, table, unary-table, Expr, number, boolean, name, current-mask, unary, binary, Block, Stmt, empty, braces, declare, assign, if-else, while, scalar, Stmts, none-yet, _⨾_}
 use Rattle.meaning.specs.Program.{Program}
 use Rattle.meaning.specs.Memory.{Declared, Declarations, declared}
-use Rattle.meaning.specs.Typing.{Typed, accepts, gives-kind, match, fits, find, variable-named, typed, typed-condition, storable, declare-name, good-block, lanes-or, typed-declaration, with-one, shut, scope, typed-statement, typed-statements, joined}
+use Rattle.meaning.specs.Typing.{Typed, accepts, match, fits, find, variable-named, typed, typed-condition, storable, declare-name, good-block, lanes-or, typed-declaration, with-one, shut, scope, typed-statement, typed-statements, joined}
 use Rattle.rules.specs.Lengths.{Match, scalar-type, same-length, Target, Fills, whole, broadcast}
 use Rattle.rules.specs.Scopes.{declarations, declarations-in}
 use Rattle.rules.specs.Typing.{Names, _at_, Listed, no-block, block, _∣_⊢_∶⟨_∣_⟩, T-NUMBER, T-BOOLEAN, T-VAR, T-MASK, T-UNARY, T-BINARY, _∣_⊢_⊣_, T-SKIP, T-SCOPE, T-DECL, T-INIT, T-ASSIGN, T-BROADCAST, T-IF, T-WHILE, T-SCALAR, _∣_⊢*_⊣_, T-NONE, T-SEQUENCE}
-use Rattle.rules.proofs.Acts.{Yields, yes, refuses, Keeps, next, keeping, checked}
+use Rattle.laws.specs.Outcomes.{well, refusal, Yields, Still}
+use Rattle.laws.proofs.Outcomes.{followed, keeping, passed}
+use Rattle.rules.proofs.Operators.{same-kinds, by-unary-table, by-test}
 use Rattle.rules.proofs.Lengths.{fits-match, matches, match-joined, target, fills}
 use Rattle.rules.proofs.Names.{opens, opens-with-one, opens-after-scope, Found, missing, number as found, finds}
-
-pub same-kinds : (k l : Kind) → same-kind k l ≡ true → k ≡ l
-unfolding same-kind kind-number
-same-kinds int int e = refl
-same-kinds int bool e = cc
-same-kinds bool int e = cc
-same-kinds bool bool e = refl
 
 -- The variable that a name means.
 pub record Means (C : ℕ) (x : Name) (Γ : Declarations) (v : ℕ × Declared) : Type 0 where
@@ -39,47 +34,39 @@ pub record Means (C : ℕ) (x : Name) (Γ : Declarations) (v : ℕ × Declared) 
   pub named : opens Γ at x ≡ some ((v .1) .kind, (v .1) .lanes)
   pub fitting : Match C ((v .1) .lanes)
 
-pub names : (C p : ℕ) (x : Name) (Γ : Declarations) → Yields (Keeps Γ (Means C x Γ)) (variable-named C p x Γ)
+pub names : (C p : ℕ) (x : Name) (Γ : Declarations) → Yields (Still Γ (Means C x Γ)) (variable-named C p x Γ)
 unfolding variable-named
 names C p x Γ = go (find x 0 Γ) refl (finds x 0 Γ)
   where
-    go : (o : Option ℕ) → find x 0 Γ ≡ o → Found x 0 Γ o → Yields (Keeps Γ (Means C x Γ)) (option (refuse UnknownName p) (λ i. do
+    go : (o : Option ℕ) → find x 0 Γ ≡ o → Found x 0 Γ o → Yields (Still Γ (Means C x Γ)) (option (refuse UnknownName p) (λ i. do
       let d = declared Γ i
       check (fits C (d .lanes)) WrongLength p
       give (i, d)) o Γ)
-    go none f h = refuses tt
+    go none f h = refusal tt
     go (some i) f (found j e l h) =
         let same : i ≡ j = omega arith in
-        checked (fits C ((declared Γ i) .lanes)) WrongLength p Γ _ (λ t.
-        yes (refl, record { is = refl; found = f; known = omega arith; named = rw same h; fitting = fits-match C _ t }))
-
--- "take two of one kind", of those that it takes
-pub operator-by-rules : {Γ : Names} {C p n n′ : ℕ} {o : Binary} {e e′ : Expr} {k l : Kind} → accepts ((table o) .1) k l ≡ true →
-    Γ ∣ C ⊢ e ∶⟨ k ∣ n ⟩ → Γ ∣ C ⊢ e′ ∶⟨ l ∣ n′ ⟩ → Match n n′ →
-    Γ ∣ C ⊢ binary p o e e′ ∶⟨ gives-kind ((table o) .2) k ∣ joined n n′ ⟩
-unfolding accepts
-operator-by-rules {o} {k} {l} a d d′ m =
-    let kinds = (and-eq-true-iff (k one-of (table o) .1) (same-kind k l)) .0 a in
-    T-BINARY (kinds .0) d (rw (← same-kinds k l (kinds .1)) at d′) m
+        passed (fits C ((declared Γ i) .lanes)) WrongLength p Γ _ tt (λ t.
+        well (refl, record { is = refl; found = f; known = omega arith; named = rw same h; fitting = fits-match C _ t }))
 
 -- The kind and length of an expression.
 pub typed-by-rules : (C : ℕ) (e : Expr) (Γ : Declarations) →
-    Yields (Keeps Γ (λ a. opens Γ ∣ C ⊢ e ∶⟨ a .kind ∣ a .lanes ⟩)) (typed C e Γ)
+    Yields (Still Γ (λ a. opens Γ ∣ C ⊢ e ∶⟨ a .kind ∣ a .lanes ⟩)) (typed C e Γ)
 unfolding typed
-typed-by-rules C (number n) Γ = yes (refl, T-NUMBER)
-typed-by-rules C (boolean b) Γ = yes (refl, T-BOOLEAN)
-typed-by-rules C (name p x) Γ = keeping _ (names C p x Γ) (λ v h. yes (refl, T-VAR (h .named) (h .fitting)))
-typed-by-rules C current-mask Γ = yes (refl, T-MASK)
+typed-by-rules C (number n) Γ = well (refl, T-NUMBER)
+typed-by-rules C (boolean b) Γ = well (refl, T-BOOLEAN)
+typed-by-rules C (name p x) Γ = keeping _ (names C p x Γ) (λ v h. well (refl, T-VAR (h .named) (h .fitting)))
+typed-by-rules C current-mask Γ = well (refl, T-MASK)
 typed-by-rules C (unary p o e) Γ =
     keeping _ (typed-by-rules C e Γ) (λ a h.
-    checked (a .kind one-of (unary-table o) .1) WrongKind p Γ _ (λ t.
-    yes (refl, T-UNARY t h)))
+    passed (a .kind one-of (unary-table o) .1) WrongKind p Γ _ tt (λ t.
+    well (refl, T-UNARY (by-unary-table o (a .kind) t) h)))
 typed-by-rules C (binary p o e e′) Γ =
     keeping _ (typed-by-rules C e Γ) (λ a h.
     keeping _ (typed-by-rules C e′ Γ) (λ b h′.
-    checked (accepts ((table o) .1) (a .kind) (b .kind)) WrongKind p Γ _ (λ t.
-    checked (match (a .lanes) (b .lanes)) WrongLength p Γ _ (λ t′.
-    yes (refl, operator-by-rules t h h′ (matches (a .lanes) (b .lanes) t′))))))
+    passed (accepts ((table o) .1) (a .kind) (b .kind)) WrongKind p Γ _ tt (λ t.
+    passed (match (a .lanes) (b .lanes)) WrongLength p Γ _ tt (λ t′.
+    let kinds = by-test o (a .kind) (b .kind) t in
+    well (refl, T-BINARY (kinds .1) h (rw (kinds .0) at h′) (matches (a .lanes) (b .lanes) t′))))))
 
 -- Every expression matches its context.
 pub matches-context : {Γ : Names} {C n : ℕ} {e : Expr} {k : Kind} → Γ ∣ C ⊢ e ∶⟨ k ∣ n ⟩ → Match C n
@@ -92,12 +79,12 @@ matches-context {C} (T-BINARY {n = n} {n′ = n′} t d d′ m) = match-joined C
 
 -- "A condition is bool."
 pub conditions : (C p : ℕ) (e : Expr) (Γ : Declarations) →
-    Yields (Keeps Γ (λ a. opens Γ ∣ C ⊢ e ∶⟨ bool ∣ a .lanes ⟩)) (typed-condition C p e Γ)
+    Yields (Still Γ (λ a. opens Γ ∣ C ⊢ e ∶⟨ bool ∣ a .lanes ⟩)) (typed-condition C p e Γ)
 unfolding typed-condition
 conditions C p e Γ =
     keeping _ (typed-by-rules C e Γ) (λ a h.
-    checked (same-kind (a .kind) bool) WrongKind p Γ _ (λ t.
-    yes (refl, rw (same-kinds (a .kind) bool t) at h)))
+    passed (same-kind (a .kind) bool) WrongKind p Γ _ tt (λ t.
+    well (refl, rw (same-kinds (a .kind) bool t) at h)))
 
 -- "The right side has the target's kind, and its length or 1": a value of kind k and l lanes for a target of n.
 pub record Stores (C : ℕ) (k : Kind) (n : ℕ) (a : Typed) : Type 0 where
@@ -106,17 +93,17 @@ pub record Stores (C : ℕ) (k : Kind) (n : ℕ) (a : Typed) : Type 0 where
   pub wide : Match C n → Target C n
 
 pub stores : (C p : ℕ) (k : Kind) (n : ℕ) (a : Typed) (Γ : Declarations) →
-    Yields (Keeps Γ (λ _. Stores C k n a)) (storable C p k n a Γ)
+    Yields (Still Γ (λ _. Stores C k n a)) (storable C p k n a Γ)
 unfolding storable
 stores C p k n a Γ =
-    checked (same-kind (a .kind) k) WrongKind p Γ _ (λ t.
-    checked (eqb (a .lanes) 1 || eqb (a .lanes) n) WrongLength p Γ _ (λ t′.
+    passed (same-kind (a .kind) k) WrongKind p Γ _ tt (λ t.
+    passed (eqb (a .lanes) 1 || eqb (a .lanes) n) WrongLength p Γ _ tt (λ t′.
     go (eqb C 1 || not (eqb n 1)) (λ t″.
     record { kind = same-kinds (a .kind) k t; fill = fills (a .lanes) n t′; wide = λ m. target C n m t″ })))
   where
-    go : (w : Bool) → (w ≡ true → Stores C k n a) → Yields (Keeps Γ (λ _. Stores C k n a)) (check w LengthOneTarget p Γ)
-    go true h = yes (refl, h refl)
-    go false h = refuses tt
+    go : (w : Bool) → (w ≡ true → Stores C k n a) → Yields (Still Γ (λ _. Stores C k n a)) (check w LengthOneTarget p Γ)
+    go true h = well (refl, h refl)
+    go false h = refusal tt
 
 -- What an act declares: so many, behind those before it, within the limit.
 pub record Declares (n : ℕ) (Γ Γ′ : Declarations) : Type 0 where
@@ -151,10 +138,10 @@ pub names-one : (C : ℕ) (k : Kind) (n p : ℕ) (x : Name) (Γ : Declarations) 
     Yields (Names-one C k n p x Γ) (declare-name C k n p x Γ)
 unfolding declare-name
 names-one C k n p x Γ =
-    checked (fits C n) WrongLength p Γ _ (λ t.
-    checked (option true (λ i. false) (find x 0 Γ)) AlreadyOpen p Γ _ (λ t′.
-    checked (ltb (length Γ) declaration-limit) TooManyDeclarations p Γ _ (λ t″.
-    yes (record {
+    passed (fits C n) WrongLength p Γ _ tt (λ t.
+    passed (option true (λ i. false) (find x 0 Γ)) AlreadyOpen p Γ _ tt (λ t′.
+    passed (ltb (length Γ) declaration-limit) TooManyDeclarations p Γ _ tt (λ t″.
+    well (record {
       number = refl;
       after = refl;
       fitting = fits-match C n t;
@@ -167,14 +154,14 @@ names-one C k n p x Γ =
     go (some i) (found j e l e′) h = absurd (false≢true h)
 
 -- "N is 1, 2, 4, 8 or 16"
-pub listed : (b : Block) (Γ : Declarations) → Yields (Keeps Γ (λ _. Listed b)) (good-block b Γ)
+pub listed : (b : Block) (Γ : Declarations) → Yields (Still Γ (λ _. Listed b)) (good-block b Γ)
 unfolding good-block
-listed none Γ = yes (refl, no-block)
+listed none Γ = well (refl, no-block)
 listed (some n) Γ = go (n .0 among lengths) block
   where
-    go : (t : Bool) → (t ≡ true → Listed (some n)) → Yields (Keeps Γ (λ _. Listed (some n))) (check t LengthNotListed (n .1) Γ)
-    go true h = yes (refl, h refl)
-    go false h = refuses tt
+    go : (t : Bool) → (t ≡ true → Listed (some n)) → Yields (Still Γ (λ _. Listed (some n))) (check t LengthNotListed (n .1) Γ)
+    go true h = well (refl, h refl)
+    go false h = refusal tt
 
 -- What a declaration leaves.
 pub one-declared : (k : Kind) (n p : ℕ) (x : Name) (Γ : Declarations) → length Γ < declaration-limit →
@@ -222,7 +209,7 @@ Branch s C Γ P Γ′ = Scoped (declarations s) (λ N. opens Γ ∣ C ⊢ s ⊣ 
 pub branch : {s : Stmt} {C : ℕ} {Γ : Declarations} → Yields (Stated s C Γ) (typed-statement C s Γ) →
     Yields (Branch s C Γ) (scope (typed-statement C s) Γ)
 unfolding scope
-branch {s} {C} {Γ} y = next _ y (λ P Γ′ h. yes (in-scope (λ N. opens Γ ∣ C ⊢ s ⊣ N) (h .declares) (h .types)))
+branch {s} {C} {Γ} y = followed _ y (λ P Γ′ h. well (in-scope (λ N. opens Γ ∣ C ⊢ s ⊣ N) (h .declares) (h .types)))
 
 -- A declaration, by T-DECL or T-INIT.
 declared-by-rules : (C p : ℕ) (k : Kind) (b : Block) (q : ℕ) (x : Name) (v : Option (ℕ × Expr)) (Γ : Declarations) →
@@ -231,8 +218,8 @@ unfolding typed-declaration declarations
 declared-by-rules C p k b q x none Γ =
     let n = lanes-or 1 b in
     keeping _ (listed b Γ) (λ _ good.
-    next _ (names-one C k n q x Γ) (λ i Γ′ h.
-    yes (rw (h .after) (record {
+    followed _ (names-one C k n q x Γ) (λ i Γ′ h.
+    well (rw (h .after) (record {
       declares = one-declared k n q x Γ (h .room);
       types = rw opens-with-one (T-DECL good (h .fitting) (h .fresh));
     }))))
@@ -241,8 +228,8 @@ declared-by-rules C p k b q x (some v) Γ =
     keeping _ (typed-by-rules C (v .1) Γ) (λ a d.
     let n = lanes-or (a .lanes) b in
     keeping _ (stores C (v .0) k n a Γ) (λ _ s.
-    next _ (names-one C k n q x Γ) (λ i Γ′ h.
-    yes (rw (h .after) (record {
+    followed _ (names-one C k n q x Γ) (λ i Γ′ h.
+    well (rw (h .after) (record {
       declares = one-declared k n q x Γ (h .room);
       types = rw opens-with-one (T-INIT good (rw (s .kind) at d) (s .fill) (s .wide (h .fitting)) (h .fresh));
     }))))))
@@ -257,40 +244,40 @@ mutual
   unfolding typed-statement declarations scope
 
   pub stated-by-rules : (s : Stmt) (C : ℕ) (Γ : Declarations) → Yields (Stated s C Γ) (typed-statement C s Γ)
-  stated-by-rules (empty p) C Γ = yes (record { declares = none-declared; types = T-SKIP })
+  stated-by-rules (empty p) C Γ = well (record { declares = none-declared; types = T-SKIP })
   stated-by-rules (braces p l) C Γ =
-      next _ (sequence-by-rules l C Γ) (λ P Γ′ h.
+      followed _ (sequence-by-rules l C Γ) (λ P Γ′ h.
       let i = in-scope (λ N. opens Γ ∣ C ⊢* l ⊣ N) (h .declares) (h .types) in
-      yes (record { declares = i .declares; types = rw (i .closed) (T-SCOPE (i .types)) }))
+      well (record { declares = i .declares; types = rw (i .closed) (T-SCOPE (i .types)) }))
   stated-by-rules (declare p k b q x v) C Γ = declared-by-rules C p k b q x v Γ
   stated-by-rules (assign p x q e) C Γ =
       keeping _ (names C p x Γ) (λ v h.
       keeping _ (typed-by-rules C e Γ) (λ a d.
       keeping _ (stores C q ((v .1) .kind) ((v .1) .lanes) a Γ) (λ _ s.
-      yes (record {
+      well (record {
         declares = none-declared;
         types = assigned (h .named) (rw (s .kind) at d) (s .fill) (s .wide (h .fitting));
       }))))
   stated-by-rules (if-else p e s t) C Γ =
       keeping _ (conditions C p e Γ) (λ a d.
       let C′ = joined (a .lanes) C in
-      next _ (branch (stated-by-rules s C′ Γ)) (λ P Γ₁ h.
-      next _ (branch (stated-by-rules t C′ Γ₁)) (λ P′ Γ₂ h′.
-      yes (record {
+      followed _ (branch (stated-by-rules s C′ Γ)) (λ P Γ₁ h.
+      followed _ (branch (stated-by-rules t C′ Γ₁)) (λ P′ Γ₂ h′.
+      well (record {
         declares = then-declared (h .declares) (h′ .declares);
         types = rw (h′ .closed, h .closed) (T-IF d (matches-context d) (h .types) (rw (h .closed) at (h′ .types)));
       }))))
   stated-by-rules (while p e s) C Γ =
       keeping _ (conditions C p e Γ) (λ a d.
-      next _ (branch (stated-by-rules s (joined (a .lanes) C) Γ)) (λ P Γ₁ h.
-      yes (record { declares = h .declares; types = rw (h .closed) (T-WHILE d (matches-context d) (h .types)) })))
+      followed _ (branch (stated-by-rules s (joined (a .lanes) C) Γ)) (λ P Γ₁ h.
+      well (record { declares = h .declares; types = rw (h .closed) (T-WHILE d (matches-context d) (h .types)) })))
   stated-by-rules (scalar p s) C Γ =
-      next _ (branch (stated-by-rules s 1 Γ)) (λ P Γ₁ h.
-      yes (record { declares = h .declares; types = rw (h .closed) (T-SCALAR (h .types)) }))
+      followed _ (branch (stated-by-rules s 1 Γ)) (λ P Γ₁ h.
+      well (record { declares = h .declares; types = rw (h .closed) (T-SCALAR (h .types)) }))
 
   pub sequence-by-rules : (l : Stmts) (C : ℕ) (Γ : Declarations) → Yields (Stated-all l C Γ) (typed-statements C l Γ)
-  sequence-by-rules none-yet C Γ = yes (record { declares = none-declared; types = T-NONE })
+  sequence-by-rules none-yet C Γ = well (record { declares = none-declared; types = T-NONE })
   sequence-by-rules (l ⨾ s) C Γ =
-      next _ (sequence-by-rules l C Γ) (λ P Γ₁ h.
-      next _ (stated-by-rules s C Γ₁) (λ P′ Γ₂ h′.
-      yes (record { declares = then-declared (h .declares) (h′ .declares); types = T-SEQUENCE (h .types) (h′ .types) })))
+      followed _ (sequence-by-rules l C Γ) (λ P Γ₁ h.
+      followed _ (stated-by-rules s C Γ₁) (λ P′ Γ₂ h′.
+      well (record { declares = then-declared (h .declares) (h′ .declares); types = T-SEQUENCE (h .types) (h′ .types) })))

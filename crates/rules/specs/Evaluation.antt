@@ -8,11 +8,13 @@ use mathlib.Core.Option.{none, some}
 use lib.ListN.{length, replicate}
 use Rattle.meaning.specs.declared.Kind.{Kind}
 use Rattle.meaning.specs.declared.Kind.the-variants.{Int as int, Bool as bool}
-use Rattle.meaning.specs.Tree.{Name, Unary, Binary, table, Expr, number, boolean, name, current-mask, unary, binary, Block, Stmt, empty, braces, declare, assign, if-else, while, scalar, Stmts, none-yet, _⨾_}
+use Rattle.meaning.specs.declared.Unary.{Unary}
+use Rattle.meaning.specs.declared.Binary.{Binary}
+use Rattle.meaning.specs.Tree.{Name, Expr, number, boolean, name, current-mask, unary, binary, Block, Stmt, empty, braces, declare, assign, if-else, while, scalar, Stmts, none-yet, _⨾_}
 use Rattle.meaning.specs.Memory.{Memory, Value, Mask, declared, fetch, update, bit, truth}
-use Rattle.meaning.specs.Typing.{gives-kind}
 use Rattle.meaning.specs.Running.{unary-of, binary-of, lanewise, some-lane}
 use Rattle.rules.specs.Lengths.{Match, Target}
+use Rattle.rules.specs.Operators.{_takes_, _takes-two_gives_}
 use Rattle.rules.specs.Scopes.{Scope, _means_, beyond, past-all, declarations}
 
 infixl 40 _∩_ _∖_
@@ -38,16 +40,18 @@ pub data _∣_∣_⊢_⇒⟨_∣_⟩ (σ : Scope) (m : Mask) (M : Memory) : Expr
   -- "current_mask is bool of length C."
   E-MASK : σ ∣ m ∣ M ⊢ current-mask ⇒⟨ bool ∣ map bit m ⟩
   E-UNARY : {p : ℕ} {o : Unary} {e : Expr} {k : Kind} {v : Value} →
+      o takes k →
       σ ∣ m ∣ M ⊢ e ⇒⟨ k ∣ v ⟩ →
       ----------------------------------------------------------
       σ ∣ m ∣ M ⊢ unary p o e ⇒⟨ k ∣ map (unary-of k o) v ⟩
   -- "A binary operator needs equal lengths or one of length 1, which is replicated."
-  E-BINARY : {p : ℕ} {o : Binary} {e e′ : Expr} {k : Kind} {v v′ : Value} →
+  E-BINARY : {p : ℕ} {o : Binary} {e e′ : Expr} {k l : Kind} {v v′ : Value} →
+      o takes-two k gives l →
       σ ∣ m ∣ M ⊢ e ⇒⟨ k ∣ v ⟩ →
       σ ∣ m ∣ M ⊢ e′ ⇒⟨ k ∣ v′ ⟩ →
       Match (length v) (length v′) →
-      ------------------------------------------------------------------------------------------------
-      σ ∣ m ∣ M ⊢ binary p o e e′ ⇒⟨ gives-kind ((table o) .2) k ∣ lanewise (binary-of k o) v v′ ⟩
+      ---------------------------------------------------------------------
+      σ ∣ m ∣ M ⊢ binary p o e e′ ⇒⟨ l ∣ lanewise (binary-of k o) v v′ ⟩
 
 infix 10 _∣_∣_⊢_≔⟨_∣_⟩_
 -- σ ∣ m ∣ M ⊢ i ≔⟨ k ∣ v ⟩ M′: to store v into the variable of number i leaves M′. 001's L(a, τ) = V(v, τ).

@@ -1,4 +1,5 @@
 pub mod Lengths
+pub mod Operators
 pub mod Scopes
 pub mod Typing
 pub mod Evaluation

@@ -8,9 +8,12 @@ use Rattle.meaning.specs.declared.Kind.{Kind}
 use Rattle.meaning.specs.declared.Kind.the-variants.{Int as int, Bool as bool}
 use Rattle.meaning.specs.Codes.{lookup, _among_, lengths}
 use Rattle.meaning.specs.Tokens.{equal}
-use Rattle.meaning.specs.Tree.{Name, _one-of_, Unary, Binary, table, unary-table, Expr, number, boolean, name, current-mask, unary, binary, Block, Stmt, empty, braces, declare, assign, if-else, while, scalar, Stmts, none-yet, _⨾_}
-use Rattle.meaning.specs.Typing.{gives-kind, joined, lanes-or}
+use Rattle.meaning.specs.declared.Unary.{Unary}
+use Rattle.meaning.specs.declared.Binary.{Binary}
+use Rattle.meaning.specs.Tree.{Name, Expr, number, boolean, name, current-mask, unary, binary, Block, Stmt, empty, braces, declare, assign, if-else, while, scalar, Stmts, none-yet, _⨾_}
+use Rattle.meaning.specs.Typing.{joined, lanes-or}
 use Rattle.rules.specs.Lengths.{Match, Target, Fills}
+use Rattle.rules.specs.Operators.{_takes_, _takes-two_gives_}
 
 -- "the declarations of the open scopes": the kind and the length of each name, in text order. 001's Γ.
 abbrev pub Names : Type 0
@@ -42,19 +45,19 @@ pub data _∣_⊢_∶⟨_∣_⟩ (Γ : Names) (C : ℕ) : Expr → Kind → ℕ 
   T-MASK : Γ ∣ C ⊢ current-mask ∶⟨ bool ∣ C ⟩
   -- "`-` `~` take int, `!` bool"
   T-UNARY : {p : ℕ} {o : Unary} {e : Expr} {k : Kind} {n : ℕ} →
-      k one-of (unary-table o) .1 ≡ true →
+      o takes k →
       Γ ∣ C ⊢ e ∶⟨ k ∣ n ⟩ →
       -------------------------------
       Γ ∣ C ⊢ unary p o e ∶⟨ k ∣ n ⟩
   -- "`+ - *` and `< > <= >=` take ints; `== != & | ^` take two of one kind". "A binary operator needs equal lengths or one of length
   -- 1, which is replicated." "Comparisons give bool, the others their operands' kind."
-  T-BINARY : {p : ℕ} {o : Binary} {e e′ : Expr} {k : Kind} {n n′ : ℕ} →
-      k one-of (table o) .1 ≡ true →
+  T-BINARY : {p : ℕ} {o : Binary} {e e′ : Expr} {k l : Kind} {n n′ : ℕ} →
+      o takes-two k gives l →
       Γ ∣ C ⊢ e ∶⟨ k ∣ n ⟩ →
       Γ ∣ C ⊢ e′ ∶⟨ k ∣ n′ ⟩ →
       Match n n′ →
-      ------------------------------------------------------------------------
-      Γ ∣ C ⊢ binary p o e e′ ∶⟨ gives-kind ((table o) .2) k ∣ joined n n′ ⟩
+      ---------------------------------------------
+      Γ ∣ C ⊢ binary p o e e′ ∶⟨ l ∣ joined n n′ ⟩
 
 infix 10 _∣_⊢_⊣_ _∣_⊢*_⊣_
 -- Γ ∣ C ⊢ s ⊣ Γ′: in a context of length C, s takes the names Γ to Γ′. With ⊢*, a sequence of statements.
