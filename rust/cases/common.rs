@@ -1,6 +1,8 @@
 //! What the tests of both sides share: answers as four numbers, memories as ints. A test names the side that it is
 //! about: `use ruihmento as side` or `use oracle as side`.
 #![allow(dead_code)]
+// A place and a need are `usize` on one side and `u32` on the other.
+#![allow(clippy::unnecessary_cast)]
 
 use crate::side::{judge, run, Answer};
 
@@ -22,7 +24,8 @@ pub fn routine_memory() -> Vec<u8> {
 
 /// The four numbers in document 01's order.
 pub fn numbers(answer: Answer) -> [u32; 4] {
-    [answer.code, answer.place, answer.need, answer.steps]
+    let (place, need) = (answer.place as u32, answer.need as u32);
+    [answer.code, place, need, answer.steps]
 }
 
 /// These ints as little-endian bytes.
@@ -42,7 +45,7 @@ pub fn verdict(text: impl AsRef<[u8]>) -> (u32, u32) {
         assert_eq!(run(text, &mut memory, PLENTY), answer);
         assert_eq!((answer.need, memory), (0, [0x5a; 4096]));
     }
-    (answer.code, answer.place)
+    (answer.code, answer.place as u32)
 }
 
 /// Runs with plenty of budget over this memory; gives the four numbers and the memory after.

@@ -51,32 +51,45 @@ impl Call {
         }
     }
 
-    /// Makes the call on this text.
+    /// The answer slice before the call.
+    pub fn answer_before(&self) -> Vec<u8> {
+        pattern(self.answer)
+    }
+
+    /// The memory or table before the call; the judge has none.
+    pub fn bytes_before(&self) -> Vec<u8> {
+        match &self.service {
+            Service::Judge => Vec::new(),
+            Service::Run(memory, _) => memory.clone(),
+            Service::Variables(length) => pattern(*length),
+        }
+    }
+
+    /// Makes the call on this text and these slices, and gives the number returned.
+    pub fn make(
+        &self,
+        services: &impl Services,
+        text: &[u8],
+        bytes: &mut [u8],
+        answer: &mut [u8],
+    ) -> u32 {
+        match self.service {
+            Service::Judge => services.judge(text, answer),
+            Service::Run(_, budget) => services.run(text, bytes, budget, answer),
+            Service::Variables(_) => services.variables(text, bytes, answer),
+        }
+    }
+
+    /// Makes the call on this text, over slices with other bytes round them.
     pub fn perform(&self, services: &impl Services, text: &[u8]) -> Left {
-        let mut answer = Lent::new(&pattern(self.answer));
-        let mut bytes = Lent::new(&self.service.bytes());
-        let (lent, out) = (bytes.slice(), answer.slice());
-        let returned = match self.service {
-            Service::Judge => services.judge(text, out),
-            Service::Run(_, budget) => services.run(text, lent, budget, out),
-            Service::Variables(_) => services.variables(text, lent, out),
-        };
+        let mut answer = Lent::new(&self.answer_before());
+        let mut bytes = Lent::new(&self.bytes_before());
+        let returned = self.make(services, text, bytes.slice(), answer.slice());
         Left {
             returned,
             round_kept: answer.round_kept() && bytes.round_kept(),
             answer: answer.slice().to_vec(),
             bytes: bytes.slice().to_vec(),
-        }
-    }
-}
-
-impl Service {
-    /// The memory or table before the call.
-    fn bytes(&self) -> Vec<u8> {
-        match self {
-            Service::Judge => Vec::new(),
-            Service::Run(memory, _) => memory.clone(),
-            Service::Variables(length) => pattern(*length),
         }
     }
 }

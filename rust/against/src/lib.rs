@@ -3,6 +3,8 @@
 //! [`sweep`] takes generated cases, one after another, and makes every call of a [`Plan`] on
 //! both: the number returned, every byte of the answer slice and every byte of memory or table
 //! must be equal, and no byte round them may change.
+#![forbid(unsafe_code)]
+#![warn(missing_docs)]
 
 mod call;
 mod compare;

@@ -1,7 +1,9 @@
 //! A longer run of generated cases on the archive and on the independent implementation.
+#![forbid(unsafe_code)]
 
 use against::{sweep, Tally};
-use std::io::{IsTerminal, Write};
+use std::io::Write;
+use std::os::unix::fs::FileTypeExt;
 use std::process::ExitCode;
 use std::time::{Instant, SystemTime, UNIX_EPOCH};
 
@@ -31,9 +33,12 @@ fn main() -> ExitCode {
         println!("{USAGE}");
         return ExitCode::SUCCESS;
     }
-    let Some(wish) = wish(&arguments) else {
-        eprintln!("{USAGE}");
-        return ExitCode::from(64);
+    let wish = match wish(&arguments) {
+        Some(wish) => wish,
+        None => {
+            eprintln!("{USAGE}");
+            return ExitCode::from(64);
+        }
     };
     println!(
         "seed {}, cases {} to {}",
@@ -67,8 +72,9 @@ fn wish(arguments: &[String]) -> Option<Wish> {
         from: 0,
     };
     for option in arguments.chunks(2) {
-        let [name, value] = option else {
-            return None;
+        let (name, value) = match option {
+            [name, value] => (name, value),
+            _ => return None,
         };
         let number = value.parse().ok()?;
         match name.as_str() {
@@ -94,6 +100,12 @@ fn print(tally: &Tally, start: Instant) {
     }
 }
 
+/// Whether standard error is a terminal, or another device that takes characters.
+fn on_terminal() -> bool {
+    let known = std::fs::metadata("/dev/stderr");
+    known.map_or(false, |file| file.file_type().is_char_device())
+}
+
 /// The progress line: on a terminal it is written over, elsewhere now and then anew.
 struct Line {
     all: u64,
@@ -109,7 +121,7 @@ impl Line {
             all,
             start: Instant::now(),
             shown: None,
-            terminal: std::io::stderr().is_terminal(),
+            terminal: on_terminal(),
         }
     }
 

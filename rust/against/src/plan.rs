@@ -13,39 +13,36 @@ const RECORD: usize = 16;
 /// A run that takes more steps than these has not every budget tried.
 const MOST_BUDGETS: u32 = 400;
 
+/// How many budgets, from 0 on, are then tried.
+const FIRST_BUDGETS: u32 = 64;
+
 /// What is tried with a case beside the judge, a run and a listing; it stays the same while a
-/// case shrinks.
+/// case shrinks. Every budget is tried with every case.
 #[derive(Clone, Debug)]
 pub struct Plan {
     /// The lengths of answer slices.
     answers: Vec<usize>,
     /// How many records each table has room for, and how many bytes more or less than that.
-    tables: Vec<(usize, isize)>,
-    /// Whether every budget from 0 to past the end is tried.
-    every_budget: bool,
+    tables: Vec<(usize, i32)>,
 }
 
 impl Plan {
-    /// A plan for the case of this seed and index: mostly a few lengths, at times all of them.
+    /// A plan for the case of this seed and index: a few lengths, and now and then all of them.
     pub fn new(seed: u64, index: u64) -> Self {
         let mut random = Random::new(!seed, index);
-        let answers = match random.below(32) {
+        let answers = match random.below(8) {
             0 => (0..=LONGEST_ANSWER).collect(),
             _ => vec![random.below(LONGEST_ANSWER + 1), random.between(16, 17)],
         };
-        let tables = match random.below(32) {
+        let tables = match random.below(16) {
             0 => (0..=66).flat_map(|k| [(k, -1), (k, 0), (k, 1)]).collect(),
             _ => (0..3).map(|_| Self::table(&mut random)).collect(),
         };
-        Plan {
-            answers,
-            tables,
-            every_budget: random.once_in(8),
-        }
+        Plan { answers, tables }
     }
 
     /// Room for a few records, give or take a byte, or for them all.
-    fn table(random: &mut Random) -> (usize, isize) {
+    fn table(random: &mut Random) -> (usize, i32) {
         let records = match random.below(3) {
             0 => random.below(4),
             1 => random.below(12),
@@ -65,27 +62,24 @@ impl Plan {
         }
         let answer = RECORD + 8;
         for (records, more) in &self.tables {
-            let length = (records * RECORD).saturating_add_signed(*more);
-            let service = Service::Variables(length);
+            let length = (records * RECORD) as i32 + more;
+            let service = Service::Variables(length.max(0) as usize);
             calls.push(Call { service, answer });
         }
-        for budget in 0..self.budgets(case) {
+        for budget in 0..budgets(case) {
             let service = Service::Run(case.memory.clone(), budget);
             calls.push(Call { service, answer });
         }
         calls
     }
+}
 
-    /// How many budgets, from 0 on, are tried: to past the end of a run that has one.
-    fn budgets(&self, case: &Case) -> u32 {
-        if !self.every_budget {
-            return 0;
-        }
-        let end = oracle::run(&case.text, &mut case.memory.clone(), MOST_BUDGETS);
-        match end.code {
-            code if code == Code::Ended as u32 => end.steps + 3,
-            code if code == Code::BudgetSpent as u32 => 64,
-            _ => 2,
-        }
+/// How many budgets, from 0 on, are tried: to past the end of a run that has one.
+fn budgets(case: &Case) -> u32 {
+    let end = oracle::run(&case.text, &mut case.memory.clone(), MOST_BUDGETS);
+    match end.code {
+        code if code == Code::Ended as u32 => end.steps + 3,
+        code if code == Code::BudgetSpent as u32 => FIRST_BUDGETS,
+        _ => 2,
     }
 }

@@ -9,8 +9,9 @@ use std::io::Write;
 
 /// The number in this environment variable, or another where it is not set.
 fn chosen(variable: &str, otherwise: u64) -> u64 {
-    let Ok(value) = std::env::var(variable) else {
-        return otherwise;
+    let value = match std::env::var(variable) {
+        Ok(value) => value,
+        Err(_) => return otherwise,
     };
     let number = value.parse();
     number.unwrap_or_else(|_| panic!("{variable} is {value:?}, which is no whole number"))

@@ -14,7 +14,7 @@ fn program(index: u64) -> (Vec<u8>, usize, Vec<u8>) {
     let wishes = Wishes::one_length(length, &mut random);
     let text = well_typed_text(&wishes, &mut random);
     let mut memory = memory_for(&text, &mut random);
-    memory.resize(ruihmento::judge(&text).need as usize, 0x77);
+    memory.resize(ruihmento::judge(&text).need, 0x77);
     (text, length, memory)
 }
 
@@ -29,7 +29,7 @@ fn lane_range(variable: &Variable<'_>, lane: usize) -> Range<usize> {
 /// A memory for the narrowed text: each variable starts from its lane's bytes, every other byte
 /// is 0xee.
 fn narrow_memory(full: &Variables, single: &Variables, memory: &[u8], lane: usize) -> Vec<u8> {
-    let mut narrowed = vec![0xee; single.need as usize];
+    let mut narrowed = vec![0xee; single.need];
     for (from, to) in full.list.iter().zip(&single.list) {
         narrowed[to.range()].copy_from_slice(&memory[lane_range(from, lane)]);
     }
@@ -86,8 +86,9 @@ fn other_lanes_make_no_difference() {
         let lane = random.below(length);
         let mut other = memory_for(&text, &mut random);
         other.resize(memory.len(), 0);
-        let Ok(listed) = variables(&text) else {
-            continue; // Above 4,096 bytes.
+        let listed = match variables(&text) {
+            Ok(listed) => listed,
+            Err(_) => continue, // Above 4,096 bytes.
         };
         let lanes = || {
             listed

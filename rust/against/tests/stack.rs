@@ -50,8 +50,8 @@ fn texts() -> Vec<Vec<u8>> {
 
 /// Calls every service on the text.
 fn call(text: &[u8]) {
-    judge(text);
-    run(text, &mut [1; 4096], 5000);
+    let _ = judge(text);
+    let _ = run(text, &mut [1; 4096], 5000);
     let _ = variables(text);
 }
 

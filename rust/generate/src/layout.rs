@@ -35,7 +35,7 @@ impl Style {
 pub fn layout(tokens: &[String], style: Style, random: &mut Random) -> Vec<u8> {
     let mut text = Vec::new();
     for token in tokens {
-        let joins = text.last().copied().is_some_and(is_word) && is_word(token.as_bytes()[0]);
+        let joins = text.last().copied().map_or(false, is_word) && is_word(token.as_bytes()[0]);
         match style {
             Style::Plain if !text.is_empty() => text.push(b' '),
             Style::Tight if joins => text.push(b' '),

@@ -2,6 +2,8 @@
 //!
 //! [`mixed`] gives case after case from a seed; [`case`] gives one of a chosen [`Sort`];
 //! [`narrow`] makes one lane a program of its own, and [`shrink`] makes a failing case smaller.
+#![forbid(unsafe_code)]
+#![warn(missing_docs)]
 
 mod any_typed;
 mod damage;

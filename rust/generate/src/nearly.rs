@@ -2,7 +2,8 @@
 
 use crate::random::Random;
 
-/// Changes one thing in these tokens, if there is a place for it.
+/// Changes one thing in these tokens, if there is a place for it. Each way of changing gives
+/// none where it finds no place.
 pub fn change(tokens: &mut Vec<String>, random: &mut Random) {
     for _ in 0..8 {
         let changed = match random.below(13) {
@@ -19,7 +20,7 @@ pub fn change(tokens: &mut Vec<String>, random: &mut Random) {
             11 => insert_unary(tokens, random),
             _ => insert_statement(tokens, random),
         };
-        if changed {
+        if changed.is_some() {
             return;
         }
     }
@@ -40,59 +41,49 @@ fn replace(
     random: &mut Random,
     these: &[&str],
     others: &[&'static str],
-) -> bool {
+) -> Option<()> {
     let among = |index: usize| these.contains(&tokens[index].as_str());
-    let Some(index) = find(tokens, random, among) else {
-        return false;
-    };
+    let index = find(tokens, random, among)?;
     tokens[index] = random.token(others).into();
-    true
+    Some(())
 }
 
 /// Another number in one `block[N]`.
-fn block_length(tokens: &mut [String], random: &mut Random) -> bool {
+fn block_length(tokens: &mut [String], random: &mut Random) -> Option<()> {
     let number = |index: usize| index >= 2 && tokens[index - 2] == "block";
-    let Some(index) = find(tokens, random, number) else {
-        return false;
-    };
+    let index = find(tokens, random, number)?;
     let numbers = ["1", "2", "4", "8", "16", "0", "3", "5", "17", "32"];
     tokens[index] = random.token(&numbers).into();
-    true
+    Some(())
 }
 
 /// One type loses its `block[N]`.
-fn without_block(tokens: &mut Vec<String>, random: &mut Random) -> bool {
+fn without_block(tokens: &mut Vec<String>, random: &mut Random) -> Option<()> {
     let block = |index: usize| tokens[index] == "block";
-    let Some(index) = find(tokens, random, block) else {
-        return false;
-    };
+    let index = find(tokens, random, block)?;
     tokens.drain(index..(index + 4).min(tokens.len()));
-    true
+    Some(())
 }
 
 /// One type gets a `block[N]`.
-fn with_block(tokens: &mut Vec<String>, random: &mut Random) -> bool {
+fn with_block(tokens: &mut Vec<String>, random: &mut Random) -> Option<()> {
     let scalar = |index: usize| {
         let next = tokens.get(index + 1).map(String::as_str);
         ["int", "bool"].contains(&tokens[index].as_str()) && next != Some("block")
     };
-    let Some(index) = find(tokens, random, scalar) else {
-        return false;
-    };
+    let index = find(tokens, random, scalar)?;
     let number = random.token(&["1", "2", "4", "8", "16"]);
     let block = ["block", "[", number, "]"].map(String::from);
     tokens.splice(index + 1..index + 1, block);
-    true
+    Some(())
 }
 
 /// One statement loses its `scalar`.
-fn without_scalar(tokens: &mut Vec<String>, random: &mut Random) -> bool {
+fn without_scalar(tokens: &mut Vec<String>, random: &mut Random) -> Option<()> {
     let scalar = |index: usize| tokens[index] == "scalar";
-    let Some(index) = find(tokens, random, scalar) else {
-        return false;
-    };
+    let index = find(tokens, random, scalar)?;
     tokens.remove(index);
-    true
+    Some(())
 }
 
 /// Whether a token is a name.
@@ -114,21 +105,19 @@ fn is_name(token: &str) -> bool {
 }
 
 /// Another name of the text, or an unknown one, in the place of a name.
-fn other_name(tokens: &mut [String], random: &mut Random) -> bool {
+fn other_name(tokens: &mut [String], random: &mut Random) -> Option<()> {
     let name = |index: usize| is_name(&tokens[index]);
-    let Some(index) = find(tokens, random, name) else {
-        return false;
-    };
+    let index = find(tokens, random, name)?;
     let other = find(tokens, random, name).map(|other| tokens[other].clone());
     tokens[index] = match other {
         Some(other) if !random.once_in(5) => other,
         _ => "unknown".into(),
     };
-    true
+    Some(())
 }
 
 /// Another operator in the place of one.
-fn operator(tokens: &mut [String], random: &mut Random) -> bool {
+fn operator(tokens: &mut [String], random: &mut Random) -> Option<()> {
     let signs = [
         "|", "^", "&", "==", "!=", "<", ">", "<=", ">=", "+", "-", "*",
     ];
@@ -136,18 +125,16 @@ fn operator(tokens: &mut [String], random: &mut Random) -> bool {
 }
 
 /// A constant or current_mask in the place of a constant.
-fn constant(tokens: &mut [String], random: &mut Random) -> bool {
+fn constant(tokens: &mut [String], random: &mut Random) -> Option<()> {
     let constant = |index: usize| {
         let token = tokens[index].as_str();
         let number = token.as_bytes()[0].is_ascii_digit();
         let block = index >= 2 && tokens[index - 2] == "block";
         !block && (number || ["true", "false", "current_mask"].contains(&token))
     };
-    let Some(index) = find(tokens, random, constant) else {
-        return false;
-    };
+    let index = find(tokens, random, constant)?;
     tokens[index] = random.token(&["true", "7", "current_mask"]).into();
-    true
+    Some(())
 }
 
 /// The span of a simple statement: from after a `;`, `{` or `}` to its `;`.
@@ -159,10 +146,8 @@ fn simple(tokens: &[String], random: &mut Random) -> Option<(usize, usize)> {
 }
 
 /// One statement is left out, or said twice, or moved.
-fn statement(tokens: &mut Vec<String>, random: &mut Random) -> bool {
-    let Some((start, end)) = simple(tokens, random) else {
-        return false;
-    };
+fn statement(tokens: &mut Vec<String>, random: &mut Random) -> Option<()> {
+    let (start, end) = simple(tokens, random)?;
     let span: Vec<String> = match random.below(3) {
         0 => tokens[start..end].to_vec(),
         _ => tokens.drain(start..end).collect(),
@@ -171,23 +156,21 @@ fn statement(tokens: &mut Vec<String>, random: &mut Random) -> bool {
         let to = simple(tokens, random).map_or(0, |(start, _)| start);
         tokens.splice(to..to, span);
     }
-    true
+    Some(())
 }
 
 /// A unary operator before an operand.
-fn insert_unary(tokens: &mut Vec<String>, random: &mut Random) -> bool {
+fn insert_unary(tokens: &mut Vec<String>, random: &mut Random) -> Option<()> {
     let operand =
         |index: usize| index > 0 && ["=", "(", "+", "<", "&"].contains(&tokens[index - 1].as_str());
-    let Some(index) = find(tokens, random, operand) else {
-        return false;
-    };
+    let index = find(tokens, random, operand)?;
     let sign = random.token(&["-", "~", "!"]);
     tokens.insert(index, sign.into());
-    true
+    Some(())
 }
 
 /// A statement that may not fit where it stands.
-fn insert_statement(tokens: &mut Vec<String>, random: &mut Random) -> bool {
+fn insert_statement(tokens: &mut Vec<String>, random: &mut Random) -> Option<()> {
     let to = simple(tokens, random).map_or(0, |(start, _)| start);
     let statements: [&[&str]; 8] = [
         &["int", "new", "=", "1", ";"],
@@ -204,5 +187,5 @@ fn insert_statement(tokens: &mut Vec<String>, random: &mut Random) -> bool {
         .iter()
         .map(|token| token.to_string());
     tokens.splice(to..to, statement);
-    true
+    Some(())
 }

@@ -76,9 +76,12 @@ fn drop_tests(smallest: &mut Case, fails: &mut impl FnMut(&Case) -> bool) {
         let tests = matches!(cut[first].bytes, b"if" | b"while");
         let open = cut[first..].iter().find(|piece| piece.bytes == b"(");
         let close = open.and_then(|open| closing(&smallest.text, open.start));
-        let (true, Some(close)) = (tests, close) else {
-            first += 1;
-            continue;
+        let close = match (tests, close) {
+            (true, Some(close)) => close,
+            _ => {
+                first += 1;
+                continue;
+            }
         };
         let start = cut[first].start;
         let candidate = match matching_else(&cut[first..]) {
@@ -109,9 +112,12 @@ fn matching_else(cut: &[Piece<'_>]) -> Option<usize> {
 fn drop_pairs(smallest: &mut Case, fails: &mut impl FnMut(&Case) -> bool) {
     let mut at = 0;
     while at < smallest.text.len() {
-        let Some(close) = closing(&smallest.text, at) else {
-            at += 1;
-            continue;
+        let close = match closing(&smallest.text, at) {
+            Some(close) => close,
+            None => {
+                at += 1;
+                continue;
+            }
         };
         let mut candidate = smallest.clone();
         candidate.text.remove(close);

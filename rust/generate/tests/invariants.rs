@@ -56,7 +56,8 @@ fn check_rows(text: &[u8]) -> Vec<Row> {
     let mut end: u32 = 0;
     let mut place = 0;
     for row in &listed.rows {
-        assert_eq!(row.address, end.div_ceil(size(row)) * size(row));
+        assert!(row.address % size(row) == 0 && row.address >= end);
+        assert!(row.address - end < size(row));
         assert!(place <= row.place && (row.place as usize) < text.len());
         (end, place) = (row.address + size(row), row.place + 1);
     }

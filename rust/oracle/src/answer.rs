@@ -21,36 +21,36 @@ pub enum Code {
     /// Codes: "accepted, or run ended".
     Ended = 0,
     /// Codes: "text above 4,096 bytes".
-    LongText = 1,
+    TextTooLong = 1,
     /// Codes: "byte outside the text rules, name too long, bad number".
-    BadToken = 2,
+    BadBytes = 2,
     /// Codes: "token not allowed, or text ends too soon".
     NotAllowed = 3,
     /// Codes: "nesting above 32".
-    Nesting = 4,
+    TooDeep = 4,
     /// Codes: "unknown name".
     UnknownName = 5,
     /// Codes: "name already open".
-    OpenName = 6,
+    AlreadyOpen = 6,
     /// Codes: "N not in the list".
-    BadLength = 7,
+    LengthNotListed = 7,
     /// Codes: "wrong kind".
     WrongKind = 8,
     /// Codes: "wrong length".
     WrongLength = 9,
     /// Codes: "length-1 target where C is above 1".
-    ScalarTarget = 10,
+    LengthOneTarget = 10,
     /// Codes: "65th declaration".
-    Declarations = 11,
+    TooManyDeclarations = 11,
     /// Codes: "memory shorter than need".
-    ShortMemory = 12,
+    MemoryTooShort = 12,
     /// Codes: "budget spent with a step still due".
     BudgetSpent = 13,
 }
 
 /// Codes: "The first refusal met ends the reading", with its code and place.
 #[derive(Clone, Copy, Debug, PartialEq, Eq)]
-pub(crate) struct Refusal {
+pub struct Refusal {
     /// Codes: one of 1 to 11.
     pub code: Code,
     /// Codes: the third column of the table.
@@ -76,9 +76,9 @@ impl Answer {
     }
 
     /// Codes: "Code 12: need given, steps 0."
-    pub(crate) fn short_memory(need: u32) -> Self {
+    pub(crate) fn memory_too_short(need: u32) -> Self {
         Answer {
-            code: Code::ShortMemory as u32,
+            code: Code::MemoryTooShort as u32,
             place: 0,
             need,
             steps: 0,

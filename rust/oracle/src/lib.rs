@@ -3,6 +3,8 @@
 //! A text passes one module after another: `tokens`, `reading` into a `tree`, `typing` into a
 //! `program` with its addresses from `memory`, then `running` on `lanes`.
 //! Comments quote document 01 under the heading they name.
+#![forbid(unsafe_code)]
+#![warn(missing_docs)]
 
 mod answer;
 mod lanes;

@@ -18,7 +18,8 @@ fn whole_size(kind: Kind, length: Length) -> u32 {
 
 /// Memory: an address is "the next multiple of its whole size" after the end so far.
 pub fn address_after(end: u32, kind: Kind, length: Length) -> u32 {
-    end.next_multiple_of(whole_size(kind, length))
+    let size = whole_size(kind, length);
+    (end + size - 1) / size * size
 }
 
 impl Variable {

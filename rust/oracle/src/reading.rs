@@ -57,7 +57,7 @@ impl Reader<'_> {
     /// The text: "an allowed one that opens the 33rd gives code 4".
     fn open(&mut self) -> Read<()> {
         if self.nesting == DEEPEST {
-            return Err(Refusal::new(Code::Nesting, self.token().place));
+            return Err(Refusal::new(Code::TooDeep, self.token().place));
         }
         self.nesting += 1;
         Ok(())
@@ -147,8 +147,9 @@ impl Reader<'_> {
         self.next += 1;
         self.expect(Form::OpenBracket)?;
         let Token { place, form } = self.token();
-        let Form::Number(number) = form else {
-            return self.not_allowed();
+        let number = match form {
+            Form::Number(number) => number,
+            _ => return self.not_allowed(),
         };
         self.next += 1;
         self.expect(Form::CloseBracket)?;
@@ -158,8 +159,9 @@ impl Reader<'_> {
     /// The text: a name where nothing else is allowed.
     fn name(&mut self) -> Read<Name> {
         let Token { place, form } = self.token();
-        let Form::Name { length } = form else {
-            return self.not_allowed();
+        let length = match form {
+            Form::Name { length } => length,
+            _ => return self.not_allowed(),
         };
         self.next += 1;
         Ok(Name { place, length })
@@ -228,8 +230,9 @@ impl Reader<'_> {
         self.operand()?;
         loop {
             let Token { place, form } = self.token();
-            let Some((operator, level)) = binary(form) else {
-                return Ok(());
+            let (operator, level) = match binary(form) {
+                Some(found) => found,
+                None => return Ok(()),
             };
             if level < loosest {
                 return Ok(());

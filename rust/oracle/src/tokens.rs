@@ -77,15 +77,14 @@ pub enum Form {
 /// Codes: "Order: 1; then 2 over the whole text", before any token is judged.
 pub fn tokens(text: &[u8]) -> Result<Vec<Token>, Refusal> {
     if text.len() > LONGEST_TEXT {
-        return Err(Refusal::new(Code::LongText, 0));
+        return Err(Refusal::new(Code::TextTooLong, 0));
     }
     let mut tokens = Vec::with_capacity(text.len() / 2 + 1);
     let mut at = after_separators(text, 0);
     while at < text.len() {
         let place = at as u32;
-        let Some((form, length)) = token(&text[at..]) else {
-            return Err(Refusal::new(Code::BadToken, place));
-        };
+        let taken = token(&text[at..]);
+        let (form, length) = taken.ok_or(Refusal::new(Code::BadBytes, place))?;
         tokens.push(Token { place, form });
         at = after_separators(text, at + length);
     }

@@ -137,10 +137,13 @@ impl Typing<'_> {
             Some((number, place)) => Some(block_length(number, place)?),
             None => None,
         };
-        let Some(right_side) = declaration.value else {
-            let length = stated.unwrap_or(1);
-            self.declare(declaration.name, Type { kind, length }, context)?;
-            return Ok(Statement::Idle { place });
+        let right_side = match declaration.value {
+            Some(right_side) => right_side,
+            None => {
+                let length = stated.unwrap_or(1);
+                self.declare(declaration.name, Type { kind, length }, context)?;
+                return Ok(Statement::Idle { place });
+            }
         };
         let (value, found) = self.expression(right_side.expression, context)?;
         let length = stated.unwrap_or(found.length);
@@ -159,10 +162,10 @@ impl Typing<'_> {
     fn declare(&mut self, name: Name, target: Type, context: Length) -> Typed<Variable> {
         check_name_length(target.length, name.place, context)?;
         if self.find(name).is_some() {
-            return Err(Refusal::new(Code::OpenName, name.place));
+            return Err(Refusal::new(Code::AlreadyOpen, name.place));
         }
         if self.rows.len() == MOST_DECLARATIONS {
-            return Err(Refusal::new(Code::Declarations, name.place));
+            return Err(Refusal::new(Code::TooManyDeclarations, name.place));
         }
         let Type { kind, length } = target;
         let variable = Variable {
@@ -190,9 +193,8 @@ impl Typing<'_> {
 
     /// Codes: 5 at a name that is not open, then 9 where its length does not fit the context.
     fn name(&self, name: Name, context: Length) -> Typed<Variable> {
-        let Some(variable) = self.find(name) else {
-            return Err(Refusal::new(Code::UnknownName, name.place));
-        };
+        let found = self.find(name);
+        let variable = found.ok_or(Refusal::new(Code::UnknownName, name.place))?;
         check_name_length(variable.length, name.place, context)?;
         Ok(variable)
     }
@@ -294,9 +296,8 @@ impl Typing<'_> {
     fn binary(&mut self, operator: Binary, place: u32) -> Typed<(Item, Type)> {
         let right = self.operand();
         let left = self.operand();
-        let Some(kind) = binary_kind(operator, left.kind, right.kind) else {
-            return Err(Refusal::new(Code::WrongKind, place));
-        };
+        let kind = binary_kind(operator, left.kind, right.kind);
+        let kind = kind.ok_or(Refusal::new(Code::WrongKind, place))?;
         if left.length != right.length && left.length != 1 && right.length != 1 {
             return Err(Refusal::new(Code::WrongLength, place));
         }
@@ -309,7 +310,7 @@ impl Typing<'_> {
 /// Typing: "N is 1, 2, 4, 8 or 16"; Codes: 7 at N.
 fn block_length(number: u32, place: u32) -> Typed<Length> {
     if !LENGTHS.contains(&number) {
-        return Err(Refusal::new(Code::BadLength, place));
+        return Err(Refusal::new(Code::LengthNotListed, place));
     }
     Ok(number as Length)
 }
@@ -332,7 +333,7 @@ fn check_store(target: Type, value: Type, assign: u32, context: Length) -> Typed
         return Err(Refusal::new(Code::WrongLength, assign));
     }
     if context != 1 && target.length == 1 {
-        return Err(Refusal::new(Code::ScalarTarget, assign));
+        return Err(Refusal::new(Code::LengthOneTarget, assign));
     }
     Ok(())
 }

@@ -14,9 +14,12 @@ fn watched(text: &str, memory: &[u8]) -> Vec<(u32, String)> {
     let mut steps = Vec::new();
     for budget in 0.. {
         let (answer, due) = program.run_watched(&mut memory.to_vec(), budget);
-        let Some(due) = due else {
-            assert_eq!((answer.code, answer.steps), (0, budget));
-            break;
+        let due = match due {
+            Some(due) => due,
+            None => {
+                assert_eq!((answer.code, answer.steps), (0, budget));
+                break;
+            }
         };
         assert_eq!(answer.code, 13);
         let lanes = (0..due.length).map(|lane| if due.mask >> lane & 1 == 1 { '1' } else { '0' });

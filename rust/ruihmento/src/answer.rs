@@ -1,44 +1,60 @@
 //! The four numbers of an answer, and what they say.
 
-use crate::{Refusal, Refused};
+use crate::{Refusal, Stopped};
 
 /// The length of an answer slice in bytes, and of a record of the table of variables.
 pub(crate) const RECORD: usize = 16;
 
 /// An answer slice before the call: as numbers these bytes are no answer, least of all code 0.
-pub(crate) const UNANSWERED: [u8; RECORD] = [0xff; RECORD];
+const UNANSWERED: [u8; RECORD] = [0xff; RECORD];
 
 /// The four numbers that a judgement or a run answers.
 #[derive(Clone, Copy, Debug, PartialEq, Eq, Hash)]
+#[must_use = "a text may be refused, and a run may not come to its end"]
 pub struct Answer {
     /// 0, or the code of a [`Refusal`].
     pub code: u32,
     /// Where in the text the refusal stands, or the statement that is due: a byte offset.
-    pub place: u32,
+    pub place: usize,
     /// How many bytes of memory an accepted text needs; 0 for a text that is not accepted.
-    pub need: u32,
+    pub need: usize,
     /// How many steps a run took; a judgement takes none.
     pub steps: u32,
 }
 
+/// A run that came to its end.
+#[derive(Clone, Copy, Debug, PartialEq, Eq, Hash)]
+#[non_exhaustive]
+pub struct Ended {
+    /// How many bytes of memory the text needs.
+    pub need: usize,
+    /// How many steps the run took.
+    pub steps: u32,
+}
+
 impl Answer {
-    /// The answer in these bytes.
-    pub(crate) fn from_bytes(bytes: &[u8; RECORD]) -> Self {
-        let [code, place, need, steps] = four_numbers(bytes);
+    /// The answer that this call writes into the slice that it is lent.
+    pub(crate) fn of(call: impl FnOnce(&mut [u8]) -> u32) -> Self {
+        let mut bytes = UNANSWERED;
+        let returned = call(&mut bytes);
+        debug_assert_eq!(returned, 1, "16 bytes are room for an answer");
+        let [code, place, need, steps] = four_numbers(&bytes);
         Answer {
             code,
-            place,
-            need,
+            place: place as usize,
+            need: need as usize,
             steps,
         }
     }
 
     /// Whether the text was accepted, or the run came to its end: code 0.
+    #[must_use]
     pub fn is_ended(&self) -> bool {
         self.code == 0
     }
 
     /// Whether the judge accepts the text, however a run of it went: code 0, 12 or 13.
+    #[must_use]
     pub fn is_accepted(&self) -> bool {
         match self.refusal() {
             None => true,
@@ -54,34 +70,40 @@ impl Answer {
     /// assert_eq!(judge(b"int x;").refusal(), None);
     /// assert_eq!(judge(b"x = 1;").refusal(), Some(Refusal::UnknownName));
     /// ```
+    #[must_use]
     pub fn refusal(&self) -> Option<Refusal> {
         Refusal::from_code(self.code)
     }
 
-    /// The answer itself at code 0, or the refusal and its place as an error.
+    /// Need and steps at code 0, or what stopped it as an error.
     ///
     /// ```
-    /// fn steps(text: &[u8], memory: &mut [u8]) -> Result<u32, ruihmento::Refused> {
+    /// fn steps(text: &[u8], memory: &mut [u8]) -> Result<u32, ruihmento::Stopped> {
     ///     Ok(ruihmento::run(text, memory, 1_000).into_result()?.steps)
     /// }
     ///
     /// assert_eq!(steps(b"int x = 5;", &mut [0; 4]).unwrap(), 1);
-    /// let refused = steps(b"int x = true;", &mut [0; 4]).unwrap_err();
-    /// assert_eq!((refused.refusal.code(), refused.place), (8, 6));
+    /// let stopped = steps(b"int x = true;", &mut [0; 4]).unwrap_err();
+    /// assert_eq!((stopped.refusal.code(), stopped.place), (8, 6));
     /// ```
-    pub fn into_result(self) -> Result<Answer, Refused> {
+    pub fn into_result(self) -> Result<Ended, Stopped> {
+        let Answer {
+            place, need, steps, ..
+        } = self;
         match self.refusal() {
-            None => Ok(self),
-            Some(refusal) => Err(Refused {
+            None => Ok(Ended { need, steps }),
+            Some(refusal) => Err(Stopped {
                 refusal,
-                place: self.place,
+                place,
+                need,
+                steps,
             }),
         }
     }
 }
 
-/// Four 32-bit little-endian numbers.
-pub(crate) fn four_numbers(bytes: &[u8; RECORD]) -> [u32; 4] {
+/// Four 32-bit little-endian numbers, the first 16 of these bytes.
+pub(crate) fn four_numbers(bytes: &[u8]) -> [u32; 4] {
     let number = |at: usize| {
         let bytes = [bytes[at], bytes[at + 1], bytes[at + 2], bytes[at + 3]];
         u32::from_le_bytes(bytes)

@@ -1,51 +1,67 @@
 //! A safe interface to Ruihmento, the proved judge and runner for lane routines.
 //!
-//! [`judge`] gives the verdict on a text, [`variables`] says where its variables lie in memory,
-//! and [`run`] judges a text and executes it over a memory within a budget of steps. They call
-//! the proved archive and do nothing else; none of them can fail otherwise than by a
-//! [`Refusal`], whatever bytes they are given.
+//! A collector makes a [`Routine`] of a text once, then puts samples into a memory by name, runs
+//! the routine over it and takes the results by name:
 //!
 //! ```
-//! use ruihmento::{run, variables, Lanes};
+//! use ruihmento::Routine;
 //!
-//! let text = b"bool block[4] ok; int block[4] s; if (ok) s = s + 1; else ;";
-//!
-//! // Where the samples go, and how much memory the text needs.
-//! let listed = variables(text)?;
-//! let mut memory = vec![0; listed.need as usize];
-//! let (ok, s) = (listed.find("ok").unwrap(), listed.find("s").unwrap());
-//! ok.put(&mut memory, &Lanes::Bool(vec![true, false, true, false]))?;
-//! s.put(&mut memory, &Lanes::Int(vec![4, 7, 25, 90]))?;
-//!
-//! // Five steps: two declarations, the test, the assignment, and the empty statement.
-//! let answer = run(text, &mut memory, 1_000);
-//! assert!(answer.is_ended());
-//! assert_eq!((answer.need, answer.steps), (32, 5));
-//! assert_eq!(s.lanes(&memory), Some(Lanes::Int(vec![5, 7, 26, 90])));
+//! let routine = Routine::new("bool block[4] ok; int block[4] s; if (ok) s = s + 1; else ;")?;
+//! let mut memory = vec![0; routine.need()];
+//! routine.set_bools(&mut memory, "ok", &[true, false, true, false])?;
+//! routine.set_ints(&mut memory, "s", &[4, 7, 25, 90])?;
+//! let ended = routine.run(&mut memory, 1_000)?;
+//! assert_eq!(ended.steps, 5);
+//! assert!(routine.ints(&memory, "s")?.eq([5, 7, 26, 90]));
 //! # Ok::<(), Box<dyn std::error::Error>>(())
 //! ```
 //!
-//! A refused text says where and why:
+//! A text that is refused says why and where, and changes no byte:
 //!
 //! ```
-//! let answer = ruihmento::judge(b"int block[4] a; int block[2] b; a = a + b;");
-//! assert_eq!((answer.code, answer.place), (9, 38));
-//! println!("{}", answer.into_result().unwrap_err());
+//! use ruihmento::Routine;
+//!
+//! let refused = Routine::new("int block[4] a; int block[2] b; a = a + b;").unwrap_err();
+//! assert_eq!((refused.refusal.code(), refused.place), (9, 38));
+//! println!("{refused}");
 //! ```
 //!
-//! [`services`] has the same three calls on byte slices, as the archive exports them.
+//! Below it are the three calls on texts, [`judge`], [`run`] and [`variables`], and below these
+//! the same on byte slices as the archive exports them, in [`services`]. They call the proved
+//! archive and do nothing else; none of them can fail otherwise than by a [`Refusal`], whatever
+//! bytes they are given.
+//!
+//! # Stack and threads
+//!
+//! A call of the archive allocates nothing and uses less than 256 KiB of stack, whatever the
+//! text: a thread with 512 KiB has room for it and its caller, and Rust's own threads have 2 MiB.
+//!
+//! Nothing is kept from one call to the next, and there is no lock: any number of threads may
+//! call at once, each with a memory of its own. They may share one [`Routine`].
+//!
+//! # The archive
+//!
+//! The build script links `libruihmento.a`, which `rt staticlib ruihmento` leaves in
+//! `target/staticlib` at the repository's root. The environment variable `RUIHMENTO_ARCHIVE_DIR`
+//! names another folder, as an absolute path. The archive is for x86-64.
+#![deny(unsafe_code)]
+#![warn(missing_docs)]
 
 mod answer;
+mod kind;
+mod misfit;
+mod nearest;
 mod refusal;
+mod routine;
 pub mod services;
 mod variables;
 
-pub use answer::Answer;
-pub use refusal::{Refusal, Refused};
-pub use variables::{Kind, Lanes, Misfit, Variable, Variables};
-
-use answer::{RECORD, UNANSWERED};
-use variables::MOST_DECLARATIONS;
+pub use answer::{Answer, Ended};
+pub use kind::{Kind, Lanes};
+pub use misfit::Misfit;
+pub use refusal::{Refusal, Refused, Stopped};
+pub use routine::Routine;
+pub use variables::{Variable, Variables};
 
 /// Judges a text: code 0 and what memory it needs, or codes 1 to 11 and the place of the refusal.
 ///
@@ -58,9 +74,7 @@ use variables::MOST_DECLARATIONS;
 /// assert_eq!((answer.code, answer.place), (3, 5));
 /// ```
 pub fn judge(text: &[u8]) -> Answer {
-    let mut answer = UNANSWERED;
-    services::judge(text, &mut answer);
-    Answer::from_bytes(&answer)
+    Answer::of(|answer| services::judge(text, answer))
 }
 
 /// Judges a text and runs it over this memory, for at most `budget` steps.
@@ -80,9 +94,7 @@ pub fn judge(text: &[u8]) -> Answer {
 /// assert_eq!((answer.place, answer.steps), (20, 100));
 /// ```
 pub fn run(text: &[u8], memory: &mut [u8], budget: u32) -> Answer {
-    let mut answer = UNANSWERED;
-    services::run(text, memory, budget, &mut answer);
-    Answer::from_bytes(&answer)
+    Answer::of(|answer| services::run(text, memory, budget, answer))
 }
 
 /// Lists where the variables of an accepted text lie, one for each declaration in text order.
@@ -100,12 +112,8 @@ pub fn run(text: &[u8], memory: &mut [u8], budget: u32) -> Answer {
 /// # Ok::<(), ruihmento::Refused>(())
 /// ```
 pub fn variables(text: &[u8]) -> Result<Variables<'_>, Refused> {
-    let mut table = [[0; RECORD]; MOST_DECLARATIONS];
-    let mut answer = UNANSWERED;
-    services::variables(text, table.as_flattened_mut(), &mut answer);
-    let Answer { need, steps, .. } = Answer::from_bytes(&answer).into_result()?;
-    let records = table.iter().take(steps as usize);
-    let list = records.map(|record| Variable::from_record(record, text));
+    let (need, declared) = variables::declared(text)?;
+    let list = declared.iter().map(|declared| declared.variable(text));
     let list = list.collect();
     Ok(Variables { need, list })
 }

@@ -31,12 +31,14 @@ extern "C" {
 }
 
 /// Judges the text: code, place, need and 0 go into the answer.
+#[must_use = "the answer slice may be too short"]
 pub fn judge(text: &[u8], answer: &mut [u8]) -> u32 {
     // SAFETY: the pointers and lengths are those of slices that live through the call.
     unsafe { ruihmento_judge(text.as_ptr(), text.len(), answer.as_mut_ptr(), answer.len()) }
 }
 
 /// Judges the text and runs it over the memory: code, place, need and steps go into the answer.
+#[must_use = "the answer slice may be too short"]
 pub fn run(text: &[u8], memory: &mut [u8], budget: u32, answer: &mut [u8]) -> u32 {
     // SAFETY: the pointers and lengths are those of slices that live through the call.
     unsafe {
@@ -58,6 +60,7 @@ pub fn run(text: &[u8], memory: &mut [u8], budget: u32, answer: &mut [u8]) -> u3
 /// A record is four 32-bit little-endian numbers: the place of the name, the kind (0 int, 1
 /// bool), the length and the address. Every other byte of the table stays, and all of it where
 /// the text is refused.
+#[must_use = "the answer slice may be too short"]
 pub fn variables(text: &[u8], table: &mut [u8], answer: &mut [u8]) -> u32 {
     // SAFETY: the pointers and lengths are those of slices that live through the call.
     unsafe {

@@ -18,8 +18,23 @@ fn compiler() -> Option<String> {
     let usual = ["cc", "gcc", "clang"].map(String::from);
     chosen.into_iter().chain(usual).find(|name| {
         let answer = Command::new(name).arg("--version").output();
-        answer.is_ok_and(|output| output.status.success())
+        answer.map_or(false, |output| output.status.success())
     })
+}
+
+/// The command that starts a program for x86-64: through an emulator where the environment names
+/// one.
+fn start(program: &Path) -> Command {
+    let emulator = std::env::var("EMULATOR").unwrap_or_default();
+    let mut words = emulator.split_whitespace();
+    match words.next() {
+        Some(first) => {
+            let mut command = Command::new(first);
+            command.args(words).arg(program);
+            command
+        }
+        None => Command::new(program),
+    }
 }
 
 /// Fails with what the command said, unless it succeeded.
@@ -30,9 +45,12 @@ fn check(what: &str, output: &Output) {
 
 #[test]
 fn the_c_example_compiles_and_prints_its_output() {
-    let Some(compiler) = compiler() else {
-        eprintln!("no C compiler here: the C example is not tried");
-        return;
+    let compiler = match compiler() {
+        Some(compiler) => compiler,
+        None => {
+            eprintln!("no C compiler here: the C example is not tried");
+            return;
+        }
     };
     let here = Path::new(env!("CARGO_MANIFEST_DIR"));
     let program = PathBuf::from(env!("CARGO_TARGET_TMPDIR")).join("collector");
@@ -48,13 +66,13 @@ fn the_c_example_compiles_and_prints_its_output() {
         .arg("-I")
         .arg(here.join("include"))
         .arg(here.join("examples/collector.c"))
-        .arg(here.join("../../target/staticlib/libruihmento.a"))
+        .arg(env!("RUIHMENTO_ARCHIVE"))
         .arg("-o")
         .arg(&program)
         .output()
         .expect("the compiler starts");
     check("compiling the C example", &compiled);
-    let ran = Command::new(&program).output().expect("the example starts");
+    let ran = start(&program).output().expect("the example starts");
     check("running the C example", &ran);
     assert_eq!(String::from_utf8_lossy(&ran.stdout), PRINTED);
 }

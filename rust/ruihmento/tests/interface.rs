@@ -1,4 +1,4 @@
-//! The safe interface: codes and their words, the listing of variables, values in memory.
+//! The calls on texts: codes and their words, the listing of variables, values in memory.
 
 use ruihmento::{judge, run, services, variables, Kind, Lanes, Misfit, Refusal};
 
@@ -19,8 +19,13 @@ fn refused_texts() -> [String; 11] {
     ]
 }
 
+/// Whether these words begin and end as those of Rust's errors do.
+fn in_rusts_manner(words: &str) -> bool {
+    words.starts_with(|first: char| first.is_lowercase()) && !words.ends_with('.')
+}
+
 #[test]
-fn every_code_has_its_refusal_and_a_sentence() {
+fn every_code_has_its_refusal_and_words() {
     for (text, expected) in refused_texts().iter().zip(Refusal::ALL) {
         let answer = judge(text.as_bytes());
         assert_eq!(answer.refusal(), Some(expected), "{text}");
@@ -31,11 +36,7 @@ fn every_code_has_its_refusal_and_a_sentence() {
     for (code, refusal) in (1..).zip(Refusal::ALL) {
         assert_eq!(refusal.code(), code);
         assert_eq!(Refusal::from_code(code), Some(refusal));
-        let sentence = refusal.to_string();
-        assert!(
-            sentence.ends_with('.') && !sentence.contains(". "),
-            "{sentence}"
-        );
+        assert!(in_rusts_manner(&refusal.to_string()), "{refusal}");
     }
     assert_eq!(Refusal::from_code(0), None);
     assert_eq!(Refusal::from_code(14), Some(Refusal::Other(14)));
@@ -43,15 +44,37 @@ fn every_code_has_its_refusal_and_a_sentence() {
 }
 
 #[test]
+fn a_place_is_told_where_it_means_something() {
+    for text in refused_texts() {
+        let refused = variables(text.as_bytes()).unwrap_err();
+        let start = match refused.refusal {
+            Refusal::TextTooLong => "code 1: ".to_string(),
+            other => format!("code {} at byte {}: ", other.code(), refused.place),
+        };
+        assert!(refused.to_string().starts_with(&start), "{refused}");
+        let stopped = run(text.as_bytes(), &mut [], 9).into_result().unwrap_err();
+        assert_eq!(stopped.to_string(), refused.to_string());
+        assert_eq!(stopped, refused.into());
+    }
+}
+
+#[test]
 fn an_accepted_text_may_still_not_end() {
     let short = run(b"int x = 1;", &mut [7; 3], 10);
-    assert_eq!(short.refusal(), Some(Refusal::ShortMemory));
+    assert_eq!(short.refusal(), Some(Refusal::MemoryTooShort));
     assert!(short.is_accepted() && !short.is_ended());
-    let spent = run(b"int x = 1;", &mut [7; 4], 0);
+    let error = short.into_result().unwrap_err();
+    assert_eq!((error.need, error.steps), (4, 0));
+    assert!(error.to_string().starts_with("code 12: the memory"));
+    assert!(error.to_string().ends_with("(need 4, steps 0)"));
+
+    let spent = run(b"int x = 1; x = 2;", &mut [7; 4], 1);
     assert_eq!(spent.refusal(), Some(Refusal::BudgetSpent));
     assert!(spent.is_accepted() && !spent.is_ended());
     let error = spent.into_result().unwrap_err();
-    assert!(error.to_string().starts_with("code 13 at byte 0: "));
+    assert_eq!((error.place, error.need, error.steps), (11, 4, 1));
+    assert!(error.to_string().starts_with("code 13 at byte 11: "));
+    assert!(error.to_string().ends_with("(need 4, steps 1)"));
 }
 
 #[test]
@@ -97,14 +120,36 @@ fn values_go_into_memory_and_come_back() {
     assert_eq!(v.lanes(&memory), Some(Lanes::Int(vec![-1, 258])));
     assert_eq!(b.lanes(&[0, 200]), Some(Lanes::Bool(vec![false, true])));
     assert_eq!(v.lanes(&memory[..15]), None);
-    assert_eq!(v.put(&mut memory, &Lanes::Int(vec![1])), Err(Misfit));
-    let eight = Lanes::Bool(vec![true; 8]);
-    assert_eq!(v.put(&mut memory, &eight), Err(Misfit));
-    assert_eq!(
-        v.put(&mut memory[..15], &Lanes::Int(vec![1, 2])),
-        Err(Misfit)
-    );
     assert_eq!(v.lanes(&memory).unwrap().to_string(), "-1 258");
+}
+
+#[test]
+fn what_does_not_fit_is_said_and_writes_nothing() {
+    let listed = variables(b"bool block[2] b; int block[2] v;").unwrap();
+    let v = &listed.list[1];
+    let mut memory = [0xaa; 16];
+    let name = || "v".to_string();
+    let length = Misfit::WrongLength {
+        name: name(),
+        length: 2,
+        given: 1,
+    };
+    assert_eq!(v.put(&mut memory, &Lanes::Int(vec![1])), Err(length));
+    let kind = Misfit::WrongKind {
+        name: name(),
+        kind: Kind::Int,
+        given: Kind::Bool,
+    };
+    assert_eq!(v.set_bools(&mut memory, &[true; 8]), Err(kind.clone()));
+    assert_eq!(v.bools(&memory).err(), Some(kind));
+    let short = Misfit::MemoryTooShort {
+        name: name(),
+        end: 16,
+        given: 15,
+    };
+    assert_eq!(v.set_ints(&mut memory[..15], &[1, 2]), Err(short.clone()));
+    assert_eq!(v.ints(&memory[..15]).err(), Some(short));
+    assert_eq!(memory, [0xaa; 16]);
 }
 
 #[test]

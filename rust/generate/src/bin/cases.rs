@@ -1,4 +1,5 @@
 //! Prints cases with the oracle's results, one a line, for other runners to be compared with.
+#![forbid(unsafe_code)]
 
 use generate::{case, Case, Random, Sort};
 use oracle::run;
@@ -30,9 +31,12 @@ struct Wish {
 
 fn main() -> ExitCode {
     let arguments: Vec<String> = std::env::args().skip(1).collect();
-    let Some(wish) = wish(&arguments) else {
-        eprintln!("{USAGE}");
-        return ExitCode::from(2);
+    let wish = match wish(&arguments) {
+        Some(wish) => wish,
+        None => {
+            eprintln!("{USAGE}");
+            return ExitCode::from(2);
+        }
     };
     match print(&wish) {
         Ok(()) => ExitCode::SUCCESS,
@@ -51,8 +55,9 @@ fn wish(arguments: &[String]) -> Option<Wish> {
         sort: None,
     };
     for option in arguments[2..].chunks(2) {
-        let [name, value] = option else {
-            return None;
+        let (name, value) = match option {
+            [name, value] => (name, value),
+            _ => return None,
         };
         match name.as_str() {
             "--text-max" => wish.text_max = value.parse().ok()?,
@@ -77,9 +82,12 @@ fn print(wish: &Wish) -> std::io::Result<()> {
     let mut index = 0;
     for _ in 0..wish.count {
         let mut tries = (index..index + MOST_TRIES).map(|index| (index, tried(wish, index)));
-        let Some((found, case)) = tries.find(|(_, case)| within(wish, case)) else {
-            eprintln!("no case of {MOST_TRIES} keeps these bounds");
-            return Err(std::io::ErrorKind::NotFound.into());
+        let (found, case) = match tries.find(|(_, case)| within(wish, case)) {
+            Some(found) => found,
+            None => {
+                eprintln!("no case of {MOST_TRIES} keeps these bounds");
+                return Err(std::io::ErrorKind::NotFound.into());
+            }
         };
         writeln!(out, "{}", line(&case))?;
         index = found + 1;

@@ -1,0 +1,72 @@
+//! The texts that are judged and run, and their memories.
+
+/// Four small texts of document 01.
+pub const SMALL: [&str; 4] = [
+    "int x = 2147483647 + 1;",
+    "int block[2] a; if (a < 5) a = 9; else a = 0;",
+    "int block[2] n; while (0 < n) n = n - 1;",
+    "bool block[4] m; int s; if (m) scalar s = 1; else ;",
+];
+
+/// The nested test of document 01's routine.
+pub const TEST: &str = "if (ok) { if (s < t) s = s + t; else s = s - t; } else ;";
+
+/// The declarations of document 01's routine, for blocks of this length.
+pub fn declarations(length: usize) -> String {
+    format!("bool block[{length}] ok; int block[{length}] s; int block[{length}] t = 10; ")
+}
+
+/// Document 01's routine, for blocks of this length.
+pub fn routine(length: usize) -> String {
+    declarations(length) + TEST
+}
+
+/// The memory of document 01's routine, its samples repeated for blocks of this length.
+pub fn routine_memory(length: usize) -> Vec<u8> {
+    let mut memory = flags(length);
+    memory.resize(4 * length, 0xaa);
+    memory.extend(samples(length));
+    memory.resize(12 * length + 16, 0xaa);
+    memory
+}
+
+/// A routine as a collector may have it, about 300 bytes long: samples outside their range are
+/// set to its end and counted, and a lane that is outside too often raises its alarm.
+pub fn ranges(length: usize) -> String {
+    format!(
+        "bool block[{length}] ok; int block[{length}] s;\n\
+         int block[{length}] out; bool block[{length}] alarm;\n\
+         int low = 5; int high = 80; // the range\n\
+         if (ok) {{\n  \
+           if (s < low) {{ s = low; out = out + 1; }}\n  \
+           else if (s > high) {{ s = high; out = out + 1; }}\n  \
+           else if (out > 0) out = out - 1; else ;\n  \
+           alarm = out >= 3;\n\
+         }} else alarm = false;\n"
+    )
+}
+
+/// A memory for `ranges`: as the routine's, with every count 2 and no alarm.
+pub fn ranges_memory(length: usize) -> Vec<u8> {
+    let mut memory = routine_memory(length);
+    memory.truncate(8 * length);
+    memory.extend((0..length).flat_map(|_| 2i32.to_le_bytes()));
+    memory.resize(13 * length + 16, 0);
+    memory
+}
+
+/// Every second sample arrived.
+fn flags(length: usize) -> Vec<u8> {
+    (0..length).map(|lane| u8::from(lane % 2 == 0)).collect()
+}
+
+/// The samples of document 01's routine, repeated, as bytes.
+fn samples(length: usize) -> impl Iterator<Item = u8> {
+    (0..length).flat_map(|lane| [4i32, 7, 25, 90][lane % 4].to_le_bytes())
+}
+
+/// This text over and over behind a start, filled up with spaces to 4,096 bytes.
+pub fn filled(start: &str, again: &str, end: &str) -> String {
+    let times = (4096 - start.len() - end.len()) / again.len();
+    format!("{:4096}", format!("{start}{}{end}", again.repeat(times)))
+}
