@@ -1,16 +1,12 @@
 //! Variables and memory for readers.
 
-use crate::source::Source;
-use ruihmento::Variable;
+use crate::routine::Routine;
+use crate::values;
 use std::io::{self, Write};
-
-/// How many bytes of memory are shown; what lies behind them belongs to no variable.
-const SHOWN: usize = 4096;
 
 /// Writes a table of variables, with their values where there is a memory.
 pub fn write_variables(
-    source: &Source,
-    variables: &[Variable<'_>],
+    routine: &Routine,
     memory: Option<&[u8]>,
     out: &mut impl Write,
 ) -> io::Result<()> {
@@ -18,25 +14,18 @@ pub fn write_variables(
         .map(String::from)
         .to_vec()];
     rows[0].extend(memory.map(|_| "values".to_string()));
-    for variable in variables {
+    for variable in &routine.variables {
         let mut row = vec![
-            variable.name.to_string(),
+            variable.name.clone(),
             variable.kind.to_string(),
             variable.length.to_string(),
             variable.address.to_string(),
-            position(source, variable),
+            routine.source.position(variable.place).to_string(),
         ];
-        let lanes = memory.and_then(|memory| variable.lanes(memory));
-        row.extend(lanes.map(|lanes| lanes.to_string()));
+        row.extend(memory.map(|memory| values::joined(variable, memory, " ")));
         rows.push(row);
     }
     write_columns(&rows, out)
-}
-
-/// Line and column of the declared name.
-fn position(source: &Source, variable: &Variable<'_>) -> String {
-    let position = source.position(variable.place);
-    format!("{}:{}", position.line, position.column)
 }
 
 /// Writes rows with their cells under one another.
@@ -59,14 +48,10 @@ fn write_columns(rows: &[Vec<String>], out: &mut impl Write) -> io::Result<()> {
 
 /// Writes the memory in rows of 16 bytes as lower-case hex, each behind its address.
 pub fn write_memory(memory: &[u8], out: &mut impl Write) -> io::Result<()> {
-    let shown = &memory[..memory.len().min(SHOWN)];
-    for (row, bytes) in shown.chunks(16).enumerate() {
+    for (row, bytes) in memory.chunks(16).enumerate() {
         writeln!(out, "  {:>4}  {}", row * 16, hex(bytes))?;
     }
-    match memory.len() - shown.len() {
-        0 => Ok(()),
-        more => writeln!(out, "  {more} more bytes, which belong to no variable"),
-    }
+    Ok(())
 }
 
 /// Bytes as lower-case hex.

@@ -1,32 +1,60 @@
-//! Judges, runs and traces lane routines at the command line.
+//! Judges, runs, traces and compares lane routines at the command line.
+#![forbid(unsafe_code)]
+#![warn(missing_docs)]
 
 mod arguments;
+mod blocks;
+mod compare;
+mod csv;
+mod escape;
 mod files;
 mod help;
+mod hints;
 mod json;
 mod listing;
+mod near;
+mod options;
 mod outcome;
+mod routine;
+mod run;
+mod samples;
 mod source;
 mod status;
+mod steps;
+mod syntax;
+mod terminal;
 mod trace;
+mod values;
 mod verdict;
 
-use arguments::{Command, Format, Request};
-use outcome::Outcome;
-use source::Source;
+use arguments::Command;
+use outcome::{Outcome, Streams};
+use routine::Routine;
 use status::{Failure, Status};
+use std::ffi::OsString;
 use std::io::{BufWriter, Write};
 use std::process::ExitCode;
 
 fn main() -> ExitCode {
-    let arguments: Vec<_> = std::env::args_os().skip(1).collect();
+    let arguments: Vec<OsString> = std::env::args_os().skip(1).collect();
     let mut out = BufWriter::new(std::io::stdout().lock());
-    let done = perform(&arguments, &mut out);
+    let mut err = std::io::stderr().lock();
+    let done = perform(
+        &arguments,
+        &mut Streams {
+            out: &mut out,
+            err: &mut err,
+        },
+    );
     let flushed = out.flush().map_err(Failure::from);
     let status = match done.and_then(|status| flushed.map(|()| status)) {
         Ok(status) => status,
         Err(failure) => {
-            failure.tell();
+            // Where even standard error is closed there is nobody to tell.
+            let _ = match failure.told() {
+                Some(told) => writeln!(err, "{told}"),
+                None => Ok(()),
+            };
             failure.status()
         }
     };
@@ -34,64 +62,23 @@ fn main() -> ExitCode {
 }
 
 /// Does what the arguments ask for.
-fn perform(arguments: &[std::ffi::OsString], out: &mut impl Write) -> Result<Status, Failure> {
+fn perform(arguments: &[OsString], to: &mut Streams) -> Result<Status, Failure> {
     match arguments::read(arguments)? {
         Command::Help => {
-            write!(out, "{}", help::HELP)?;
+            write!(to.out, "{}", help::HELP)?;
             Ok(Status::Ended)
         }
         Command::Version => {
-            writeln!(out, "lanes {}", env!("CARGO_PKG_VERSION"))?;
+            writeln!(to.out, "lanes {}", env!("CARGO_PKG_VERSION"))?;
             Ok(Status::Ended)
         }
         Command::Judge(file, format) => {
-            let source = Source::new(&file, files::read(&file)?);
-            let answer = ruihmento::judge(&source.text);
-            show(&Outcome::judged(&source, answer), format, out)
+            let routine = Routine::read(&file)?;
+            Outcome::judged(&routine).show(format, to)
         }
-        Command::Run(request) => run(&request, out),
-        Command::Trace(request, from) => {
-            let (source, memory) = load(&request)?;
-            let steps = trace::Steps {
-                source: &source,
-                memory: &memory,
-                from,
-                budget: request.budget,
-            };
-            let last = steps.show(request.format, out)?;
-            show(&last, request.format, out)
-        }
+        Command::Template(file, all, rows) => run::template(&file, all, rows, to),
+        Command::Run(start, results) => run::run(&start, &results, to),
+        Command::Trace(start, view) => trace::trace(&start, &view, to),
+        Command::Compare(comparison) => compare::compare(&comparison, to),
     }
-}
-
-/// Runs a routine, shows the outcome and writes the memory where that is asked for.
-fn run(request: &Request, out: &mut impl Write) -> Result<Status, Failure> {
-    let (source, mut memory) = load(request)?;
-    let answer = ruihmento::run(&source.text, &mut memory, request.budget);
-    let outcome = Outcome::ran(&source, answer, &memory);
-    let status = show(&outcome, request.format, out)?;
-    match &request.out {
-        Some(path) if outcome.has_run() => files::write(path, &memory)?,
-        _ => {}
-    }
-    Ok(status)
-}
-
-/// Reads the text and the memory, which is zeros of the needed size where `-` is given.
-fn load(request: &Request) -> Result<(Source, Vec<u8>), Failure> {
-    let source = Source::new(&request.file, files::read(&request.file)?);
-    let memory = match &request.memory {
-        Some(path) => files::read(path)?,
-        None => vec![0; ruihmento::judge(&source.text).need as usize],
-    };
-    Ok((source, memory))
-}
-
-/// Shows an outcome in the format asked for; gives its status.
-fn show(outcome: &Outcome, format: Format, out: &mut impl Write) -> Result<Status, Failure> {
-    match format {
-        Format::Text => outcome.write_text(out)?,
-        Format::Json => writeln!(out, "{}", outcome.json())?,
-    }
-    Ok(Status::of(outcome.answer))
 }

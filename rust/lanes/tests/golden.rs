@@ -3,38 +3,28 @@
 //! With `LANES_GOLDEN=write` the files are written instead; read the difference before it is
 //! kept.
 
-use std::path::PathBuf;
-use std::process::{Command, Output};
+mod common;
 
-/// The folder with the routines, the memories and the outputs.
-fn folder() -> PathBuf {
-    PathBuf::from(env!("CARGO_MANIFEST_DIR")).join("tests/golden")
-}
+use common::{folder, lanes};
 
-/// Runs the program in that folder.
-fn lanes(arguments: &str) -> Output {
-    let mut command = Command::new(env!("CARGO_BIN_EXE_lanes"));
-    let command = command.args(arguments.split_whitespace());
-    command
-        .current_dir(folder())
-        .output()
-        .expect("lanes starts")
-}
+/// What stands between standard output and standard error in a file.
+const ERROR: &str = "-- on standard error:\n";
 
-/// The program's output is this file's, its status this one, and it says nothing else.
+/// The program's output is this file's, and its status this one.
 fn check(arguments: &str, status: i32, golden: &str) {
-    let output = lanes(arguments);
+    let words: Vec<&str> = arguments.split_whitespace().collect();
+    let output = lanes(&words);
+    let mut shown = String::from_utf8_lossy(&output.stdout).into_owned();
+    if !output.stderr.is_empty() {
+        shown.push_str(ERROR);
+        shown.push_str(&String::from_utf8_lossy(&output.stderr));
+    }
     let path = folder().join(golden);
-    if std::env::var_os("LANES_GOLDEN").is_some_and(|word| word == "write") {
-        std::fs::write(&path, &output.stdout).expect("the file can be written");
+    if std::env::var_os("LANES_GOLDEN").map_or(false, |word| word == "write") {
+        std::fs::write(&path, &shown).expect("the file can be written");
     }
     let expected = std::fs::read(&path).expect("the file can be read");
-    assert_eq!(
-        String::from_utf8_lossy(&output.stdout),
-        String::from_utf8_lossy(&expected),
-        "{arguments}"
-    );
-    assert_eq!(String::from_utf8_lossy(&output.stderr), "", "{arguments}");
+    assert_eq!(shown, String::from_utf8_lossy(&expected), "{arguments}");
     assert_eq!(output.status.code(), Some(status), "{arguments}");
 }
 
@@ -45,7 +35,7 @@ fn routine_of_document_01_as_text() {
     check("run routine.txt memory.bin --budget 6", 3, "routine.run-6");
     check("trace routine.txt memory.bin", 0, "routine.trace");
     check(
-        "trace routine.txt memory.bin --budget 6 --from 5",
+        "trace routine.txt memory.bin --budget=6 --from 5",
         3,
         "routine.trace-5-6",
     );
@@ -68,21 +58,119 @@ fn routine_of_document_01_as_json() {
 }
 
 #[test]
-fn loop_with_lanes_that_leave() {
-    check("trace loop.txt loop.bin", 0, "loop.trace");
-    check("trace loop.txt loop.bin --json", 0, "loop.trace.json");
+fn samples_by_name() {
+    let named = "run routine.txt --set ok=1,0,1,0 --set s=4,7,25,90";
+    check(named, 0, "routine.named");
+    check("run routine.txt --csv lanes.csv", 0, "routine.named");
+    check("run routine.txt --csv wide.csv", 0, "routine.named");
+    check("run routine.txt --set ok=1 --set s=-3", 0, "routine.filled");
+    check("run twice.txt --set x@1:7=5", 0, "twice.named");
+    check("run twice.txt --set x=5", 65, "twice.which");
+    check("template routine.txt", 0, "routine.template");
+    check("template routine.txt --rows", 0, "routine.template-rows");
+    check("template twice.txt --all", 0, "twice.template");
 }
 
 #[test]
-fn refusals_under_their_line() {
-    check("judge lengths.txt", 1, "lengths.judge");
+fn many_blocks() {
+    check("run routine.txt --blocks before.bin", 0, "blocks.run");
+    check("run routine.txt --blocks blocks.csv", 0, "blocks.csv.run");
+    check(
+        "run routine.txt --blocks before.bin --json",
+        0,
+        "blocks.run.json",
+    );
+    check(
+        "run routine.txt --blocks before.bin --csv-out -",
+        0,
+        "blocks.run.csv",
+    );
+    check(
+        "run routine.txt --blocks before.bin --budget 6",
+        3,
+        "blocks.run-6",
+    );
+    check(
+        "trace routine.txt --blocks before.bin --block 1 --from 5",
+        0,
+        "blocks.trace-1",
+    );
+}
+
+#[test]
+fn recorded_blocks_are_compared() {
+    check(
+        "compare routine.txt before.bin after.bin",
+        0,
+        "compare.same",
+    );
+    check(
+        "compare routine.txt before.bin wrong.bin",
+        1,
+        "compare.wrong",
+    );
+    check(
+        "compare routine.txt before.bin wrong.bin --show 1",
+        1,
+        "compare.wrong-1",
+    );
+    check(
+        "compare routine.txt before.bin wrong.bin --json",
+        1,
+        "compare.wrong.json",
+    );
+    check(
+        "compare routine.txt before.bin memory.bin",
+        1,
+        "compare.ends",
+    );
+    check(
+        "compare routine.txt before.bin loop.bin",
+        65,
+        "compare.part",
+    );
+    check(
+        "compare lengths.txt before.bin after.bin",
+        1,
+        "lengths.judge",
+    );
+}
+
+#[test]
+fn loop_with_lanes_that_leave() {
+    check("trace loop.txt loop.bin", 0, "loop.trace");
+    check("trace loop.txt loop.bin --json", 0, "loop.trace.json");
+    check("trace loop.txt loop.bin --lane 0", 0, "loop.trace-lane-0");
+}
+
+#[test]
+fn traces_with_more_beside_them() {
+    check(
+        "trace routine.txt memory.bin --watch s --watch ok",
+        0,
+        "routine.trace-watch",
+    );
+    check(
+        "trace routine.txt memory.bin --lane 2 --from 3 --to 7",
+        0,
+        "routine.trace-lane-2",
+    );
+    check("trace wide.txt --set v=1000000007", 0, "wide.trace");
+    check(
+        "trace wide.txt --set v=1000000007 --width 60",
+        0,
+        "wide.trace-60",
+    );
+    check("trace mask.txt --set ok=1,0,1,0", 0, "mask.trace");
+    check("trace scalar.txt --set m=1,0 --lane 1", 0, "scalar.trace");
+}
+
+#[test]
+fn refusals_as_json() {
     check("judge lengths.txt --json", 1, "lengths.judge.json");
     check("run lengths.txt memory.bin", 1, "lengths.judge");
     check("trace lengths.txt memory.bin", 1, "lengths.judge");
-    check("judge ends.txt", 1, "ends.judge");
-    check("judge number.txt", 1, "number.judge");
-    check("judge name.txt", 1, "name.judge");
-    check("judge byte.txt", 1, "byte.judge");
+    check("template lengths.txt", 1, "lengths.judge");
 }
 
 #[test]
@@ -94,5 +182,5 @@ fn memory_that_is_too_short() {
 
 #[test]
 fn memory_of_zeros() {
-    check("run routine.txt -", 0, "routine.zeros");
+    check("run routine.txt", 0, "routine.zeros");
 }

@@ -1,0 +1,39 @@
+//! On a terminal: the trace is as wide as it is. The terminal is made by the program `script`;
+//! where there is none, the test says so and ends.
+
+mod common;
+
+use common::{command, folder, program};
+use std::process::{Command, Stdio};
+
+/// What the program shows on a terminal of so many columns; none where none can be made.
+fn on_terminal(columns: u32, arguments: &str) -> Option<String> {
+    let command = format!("stty cols {columns} && {} {arguments}", program().join(" "));
+    let mut script = Command::new("script");
+    let script = script.args(["-qec", &command, "/dev/null"]);
+    let script = script.current_dir(folder()).env_remove("COLUMNS");
+    match script.stdin(Stdio::null()).output() {
+        Ok(output) => Some(String::from_utf8_lossy(&output.stdout).into_owned()),
+        Err(_) => {
+            eprintln!("skipped: there is no `script` to make a terminal");
+            None
+        }
+    }
+}
+
+#[test]
+fn a_trace_is_as_wide_as_the_terminal() {
+    let trace = "trace routine.txt memory.bin --watch s --watch ok";
+    for columns in [64, 100] {
+        let shown = match on_terminal(columns, trace) {
+            Some(shown) => shown.replace('\r', ""),
+            None => return,
+        };
+        let words: Vec<&str> = trace.split_whitespace().collect();
+        let width = columns.to_string();
+        let expected = command(&words).args(["--width", &width]).output();
+        let expected = expected.expect("lanes starts").stdout;
+        assert_eq!(shown, String::from_utf8_lossy(&expected), "{columns}");
+        assert!(shown.lines().all(|line| line.len() <= columns as usize));
+    }
+}
