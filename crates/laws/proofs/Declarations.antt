@@ -1,11 +1,11 @@
 -- Declarations keep their order as they are made and as their scopes are closed: listed lengths, addresses of their own, ends before need.
-use Prim.Native.Nat.{ℕ, zero, suc, _+_, _*_, _≤_, _<_}
+use Prim.Native.Nat.{ℕ, zero, suc, _+_, _*_, _-_, _/_, _≤_, _<_, _∣_}
 use mathlib.Core.Path.{_≡_, refl, ap}
 use mathlib.Core.Logic.{⊎-elim}
 use mathlib.Core.Bool.{Bool, true, false, _||_, false≢true}
 use mathlib.Core.List.{List, [], _∷_, _++_}
 use native.Mathlib.Omega.{arith}
-use native.Mathlib.Nat.{eq-or-lt-of-le}
+use native.Mathlib.Nat.{eq-or-lt-of-le, dvd-mul-left, lt-div-mul-add, div-lt-iff-lt-mul, div-mul-cancel, mul-le-mul-right}
 use lib.Dec.{eqb}
 use lib.ListN.{length, length-append, List·getD-append}
 use lib.Seq.{getD-at}
@@ -17,7 +17,7 @@ use Rattle.meaning.specs.Tree.{Name}
 use Rattle.meaning.specs.Memory.{Declared, Declarations, declared, whole, size, next-multiple, need}
 use Rattle.meaning.specs.Typing.{with-one, shut}
 use Rattle.laws.specs.Sound.{Spelled, Laid}
-use Rattle.laws.specs.Declarations.{end-of, Listed, Ordered, closing, Alike, none-yet, both-more, Grows}
+use Rattle.laws.specs.Declarations.{end-of, end-before, Listed, Ordered, closing, Alike, none-yet, both-more, Grows}
 
 -- A length of the list is one of five.
 pub by-length : (P : ℕ → Type 0) (n : ℕ) → Listed n → P 1 → P 2 → P 4 → P 8 → P 16 → P n
@@ -61,6 +61,26 @@ rounded bool n end l h e =
     (record { after = omega arith; before = omega arith })
     (record { after = omega arith; before = omega arith })
 
+-- "the next multiple": a multiple, at or behind the end, and the least such.
+module _ (end size : ℕ) (some : 0 < size) where
+  pub next-divides : size ∣ next-multiple end size
+  unfolding next-multiple
+  next-divides = dvd-mul-left size ((end + (size - 1)) / size)
+
+  pub next-behind : end ≤ next-multiple end size
+  unfolding next-multiple
+  next-behind = omega (arith, lt-div-mul-add {a = end + (size - 1)} {b = size} some)
+
+  pub next-least : (a : ℕ) → size ∣ a → end ≤ a → next-multiple end size ≤ a
+  unfolding next-multiple
+  next-least a d h =
+      let times = a / size in
+      let is : times * size ≡ a = div-mul-cancel size d in
+      let within : end + (size - 1) < (times + 1) * size = omega (arith, is) in
+      let few : (end + (size - 1)) / size < times + 1 = (div-lt-iff-lt-mul {k = size} {x = end + (size - 1)} {y = times + 1} some) .1 within in
+      let fewer : (end + (size - 1)) / size ≤ times = omega arith in
+      omega (arith, is, mul-le-mul-right size fewer)
+
 -- No declaration keeps to it all.
 pub ordered-none : (text : List ℕ) → Ordered text []
 unfolding need
@@ -68,6 +88,7 @@ ordered-none text = record {
   few = omega arith;
   listed = λ x h. absurd (omega arith);
   named = λ x h. absurd (omega arith);
+  next = λ x h. absurd (omega arith);
   ends = λ x h. absurd (omega arith);
   apart = λ x y h g. absurd (omega arith);
   small = omega arith;
@@ -81,6 +102,13 @@ ordered-laid k = record {
   ends = k .ends;
   small = k .small;
 }
+
+-- Need is the end of the last declaration.
+pub need-last : (Γ : Declarations) → need Γ ≡ end-before Γ (length Γ)
+unfolding need end-before declared
+need-last [] = refl
+need-last (d ∷ []) = refl
+need-last (d ∷ e ∷ Γ) = need-last (e ∷ Γ)
 
 -- One more declaration is the last, where need is, and those before it stay.
 module _ (Γ : Declarations) (d : Declared) where
@@ -113,6 +141,24 @@ module _ (Γ : Declarations) (d : Declared) where
   pub grows-new : Grows Γ (Γ ++ (d ∷ []))
   grows-new = record { longer = omega (arith, new-length); kinds = λ x h. ap (λ (d : Declared). d .kind) (old-declared x h); lanes = λ x h. ap (λ (d : Declared). d .lanes) (old-declared x h) }
 
+  old-before : (x : ℕ) → x ≤ length Γ → end-before (Γ ++ (d ∷ [])) x ≡ end-before Γ x
+  unfolding end-before
+  old-before zero h = refl
+  old-before (suc x) h = ap end-of (old-declared x (omega arith))
+
+  -- Where it lies at the next multiple behind them, so do all.
+  next-new : d .address ≡ next-multiple (need Γ) (whole (d .kind) (d .lanes))
+      → ((x : ℕ) → x < length Γ → (declared Γ x) .address ≡ next-multiple (end-before Γ x) (whole ((declared Γ x) .kind) ((declared Γ x) .lanes)))
+      → (x : ℕ) → x < length (Γ ++ (d ∷ []))
+      → (declared (Γ ++ (d ∷ [])) x) .address ≡ next-multiple (end-before (Γ ++ (d ∷ [])) x) (whole ((declared (Γ ++ (d ∷ [])) x) .kind) ((declared (Γ ++ (d ∷ [])) x) .lanes))
+  next-new new next x l =
+      let le : x ≤ length Γ = omega (arith, new-length) in
+      rw (old-before x le)
+      (⊎-elim
+      (λ (e : x ≡ length Γ). rw (e, new-declared, ← need-last Γ) new)
+      (λ (lt : x < length Γ). rw (old-declared x lt) (next x lt))
+      (eq-or-lt-of-le le))
+
   -- Where it begins after the others' end.
   apart-new : need Γ ≤ d .address → ((x : ℕ) → x < length Γ → end-of (declared Γ x) ≤ need Γ) → ((x y : ℕ) → x < y → y < length Γ → end-of (declared Γ x) ≤ (declared Γ y) .address)
       → (x y : ℕ) → x < y → y < length (Γ ++ (d ∷ [])) → end-of (declared (Γ ++ (d ∷ [])) x) ≤ (declared (Γ ++ (d ∷ [])) y) .address
@@ -137,6 +183,7 @@ module _ {text : List ℕ} {Γ : Declarations} (k : Ordered text Γ) (kind : Kin
         few = omega (arith, more, room);
         listed = each-new Γ d (λ d. Listed (d .lanes)) (k .listed) fits;
         named = each-new Γ d (λ d. Spelled text (d .place) (d .name)) (k .named) spelled;
+        next = next-new Γ d refl (k .next);
         ends = each-new Γ d (λ e. end-of e ≤ need (Γ ++ (d ∷ []))) (λ x h. omega (arith, k .ends x h, last, r .after)) (omega (arith, last));
         apart = apart-new Γ d (r .after) (k .ends) (k .apart);
         small = omega (arith, last, more, r .before);
@@ -175,7 +222,7 @@ grows-alike a = record {
 }
 
 pub ordered-alike : {text : List ℕ} {Γ Δ : Declarations} → Alike Γ Δ → Ordered text Γ → Ordered text Δ
-unfolding shut
+unfolding shut end-before
 ordered-alike {text} {Γ} {Δ} a k =
     let l = alike-length a in
     let n = alike-need a in
@@ -183,6 +230,7 @@ ordered-alike {text} {Γ} {Δ} a k =
       few = omega (arith, l, k .few);
       listed = λ x h. each (λ d. Listed (d .lanes)) x (k .listed x (omega arith));
       named = λ x h. each (λ d. Spelled text (d .place) (d .name)) x (k .named x (omega arith));
+      next = λ x h. rw (before x) (each (λ d. d .address ≡ next-multiple (end-before Γ x) (whole (d .kind) (d .lanes))) x (k .next x (omega arith)));
       ends = λ x h. rw n (each (λ d. end-of d ≤ need Γ) x (k .ends x (omega arith)));
       apart = λ x y h g. each (λ d. end-of d ≤ (declared Δ y) .address) x (each (λ d. end-of (declared Γ x) ≤ d .address) y (k .apart x y h (omega arith)));
       small = rw (n, l) (k .small);
@@ -190,3 +238,7 @@ ordered-alike {text} {Γ} {Δ} a k =
   where
     each : (P : Declared → Type 0) (x : ℕ) → P (shut (declared Γ x)) → P (shut (declared Δ x))
     each P x h = rw (alike-declared x a) h
+
+    before : (x : ℕ) → end-before Δ x ≡ end-before Γ x
+    before zero = refl
+    before (suc x) = ap end-of (alike-declared x a)

@@ -17,3 +17,11 @@ pub mod Values
 pub mod Running
 pub mod Budget
 pub mod Services
+pub mod Images
+pub mod Integers
+pub mod Signed
+pub mod Bits
+pub mod Arithmetic
+pub mod TokenOrder
+pub mod NameOrder
+pub mod Order

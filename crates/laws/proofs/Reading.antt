@@ -40,12 +40,12 @@ module _ (text : List ℕ) (ts : List Token) (spelled : All-in text 0 ts) where
   Later Q at a at′ = (at ≤ at′) × Q a
 
   -- From a position on, a value with Q or a refusal of the text.
-  abbrev Goes : {A : Type 0} → (A → Type 0) → ℕ → Out ℕ A → Type 0
+  abbrev pub Goes : {A : Type 0} → (A → Type 0) → ℕ → Out ℕ A → Type 0
   Goes Q at o = Ends (Later Q at) (Refused-in text) o
 
   -- What m reads has Q.
-  record Gives {A : Type 0} (Q : A → Type 0) (m : Reads A) : Type 0 where
-    at : (p : ℕ) → Goes Q p (m p)
+  pub record Gives {A : Type 0} (Q : A → Type 0) (m : Reads A) : Type 0 where
+    pub at : (p : ℕ) → Goes Q p (m p)
 
   -- Refusals 3 and 4 are the judge's.
   not-allowed : (p : ℕ) → Near p → Refused-in text NotAllowed p
@@ -194,13 +194,13 @@ module _ (text : List ℕ) (ts : List Token) (spelled : All-in text 0 ts) where
       (λ t _. gives-more (omega arith) h)
       (λ t _. closed-gives t (gives-more (omega arith) (seven (7 * r + 1) (unaries ts r) h)))
 
-  expression-gives : (r : ℕ) → r ≤ nesting-limit → Gives (Sound text) (expression ts r)
+  pub expression-gives : (r : ℕ) → r ≤ nesting-limit → Gives (Sound text) (expression ts r)
   unfolding expression stack-limit
   expression-gives r l =
       let h = seven (7 * r + 1) (unaries ts r) (unaries-give r) in
       record { at = λ p. weaker (h .at p) (λ e q k. (k .0, record { in-text = k .1 .in-text; fits = omega (arith, k .1 .fits, l) })) }
 
-  condition-gives : (r : ℕ) → r ≤ nesting-limit → Gives (Sound text) (condition ts r)
+  pub condition-gives : (r : ℕ) → r ≤ nesting-limit → Gives (Sound text) (condition ts r)
   unfolding condition parenthesised
   condition-gives r l = record { at = λ p. next-act _ (expected "(" p) (λ t q _ s. inside r l t (s .near) .at q) }
     where
@@ -209,7 +209,7 @@ module _ (text : List ℕ) (ts : List Token) (spelled : All-in text 0 ts) where
       inside (suc r) l t h = closed-gives t (expression-gives r (omega arith))
 
   -- "then perhaps `block[N]`", after the first token
-  block-goes : (p : ℕ) → 0 < p → Goes (Placed text) p (block ts p)
+  pub block-goes : (p : ℕ) → 0 < p → Goes (Placed text) p (block ts p)
   unfolding block look next
   block-goes p l = go (eqb ((here p) .is) (the "block"))
     where

@@ -1,11 +1,11 @@
 -- How declarations lie, and how they grow while a text is typed.
-use Prim.Native.Nat.{ℕ, _+_, _*_, _≤_, _<_}
+use Prim.Native.Nat.{ℕ, zero, suc, _+_, _*_, _≤_, _<_}
 use mathlib.Core.Path.{_≡_}
 use mathlib.Core.Bool.{true}
 use mathlib.Core.List.{List, [], _∷_, _++_, map}
 use lib.ListN.{length, take, drop}
 use Rattle.meaning.specs.Codes.{_among_, lengths, declaration-limit}
-use Rattle.meaning.specs.Memory.{Declared, Declarations, declared, whole, need}
+use Rattle.meaning.specs.Memory.{Declared, Declarations, declared, whole, next-multiple, need}
 use Rattle.meaning.specs.Typing.{shut}
 use Rattle.laws.specs.Sound.{Spelled}
 
@@ -13,16 +13,23 @@ use Rattle.laws.specs.Sound.{Spelled}
 abbrev pub end-of : Declared → ℕ
 end-of d = d .address + whole (d .kind) (d .lanes)
 
+-- The end of the declaration before number x; before the first it is 0.
+unfoldable pub end-before : Declarations → ℕ → ℕ
+end-before Γ zero = 0
+end-before Γ (suc x) = end-of (declared Γ x)
+
 -- A length of the list: of a name, of a context, of an expression.
 abbrev pub Listed : ℕ → Type 0
 Listed n = n among lengths ≡ true
 
 -- What the declarations of a text keep to: at most 64 of them, each of a listed length, with its name in the text, and with "an address
--- of its own, in text order, never shared with another"; all end before need, which is at most 64 bytes for each.
+-- of its own, in text order, never shared with another: the next multiple of its whole size"; all end before need, which is at most 64
+-- bytes for each.
 pub record Ordered (text : List ℕ) (Γ : Declarations) : Type 0 where
   pub few : length Γ ≤ declaration-limit
   pub listed : (x : ℕ) → x < length Γ → Listed ((declared Γ x) .lanes)
   pub named : (x : ℕ) → x < length Γ → Spelled text ((declared Γ x) .place) ((declared Γ x) .name)
+  pub next : (x : ℕ) → x < length Γ → (declared Γ x) .address ≡ next-multiple (end-before Γ x) (whole ((declared Γ x) .kind) ((declared Γ x) .lanes))
   pub ends : (x : ℕ) → x < length Γ → end-of (declared Γ x) ≤ need Γ
   pub apart : (x y : ℕ) → x < y → y < length Γ → end-of (declared Γ x) ≤ (declared Γ y) .address
   pub small : need Γ ≤ 64 * length Γ

@@ -7,3 +7,5 @@ pub mod Near
 pub mod Accepted
 pub mod Values
 pub mod Words
+pub mod Arithmetic
+pub mod Order

@@ -1,10 +1,10 @@
 -- Document 01, "What is built": judge, run and the listing of variables, from bytes to numbers and bytes.
-use Prim.Native.Nat.{ℕ, _*_, _-_}
+use Prim.Native.Nat.{ℕ, zero, suc, _*_, _-_, _/_, min}
 use mathlib.Core.Path.{_≡_}
 use mathlib.Core.Bool.{true}
 use mathlib.Core.List.{List, [], _∷_, _++_}
 use lib.Dec.{leb}
-use lib.ListN.{length, drop}
+use lib.ListN.{length, take, drop}
 use Rattle.meaning.specs.declared.Refusal.the-variants.{MemoryTooShort}
 use Rattle.meaning.specs.Codes.{code, Out, ok, refused, if_then_else_}
 use Rattle.meaning.specs.Tokens.{lexed}
@@ -125,7 +125,7 @@ called slice lent (l, after) =
     then (λ _. record { returns = 1; slice = with-numbers l slice; lent = after })
     else λ _. record { returns = 0; slice = slice; lent = lent }
 
--- The three services as they are called.
+-- The three services of one text and one memory as they are called.
 unfoldable pub judge-call : List ℕ → List ℕ → Called (Unit {0})
 judge-call text slice = called slice tt (numbers (judge text), tt)
 
@@ -134,6 +134,30 @@ run-call text M budget slice = let o = run text M budget in called slice M (numb
 
 unfoldable pub variables-call : List ℕ → List ℕ → List ℕ → Called (List ℕ)
 variables-call text table slice = let o = variables text table in called slice table (numbers (o .0), o .1)
+
+-- "It lends a slice for the answer: at least 16 bytes".
+abbrev pub answer-bytes : ℕ
+answer-bytes = 16
+
+-- "as many images as stand whole in `images` and in `answers` (none where size is 0)"
+unfoldable pub how-many : ℕ → List ℕ → List ℕ → ℕ
+how-many size images answers = if leb 1 size then (λ _. min (length images / size) (length answers / answer-bytes)) else λ _. 0
+
+-- "Image k is the bytes from k·size to (k+1)·size, its answer the 16 bytes at 16·k": the first n images and answers as `by` leaves
+-- them; "every other byte stays".
+unfoldable pub each : (Memory → Answer × Memory) → ℕ → ℕ → List ℕ → List ℕ → List ℕ × List ℕ
+each by size zero images answers = (images, answers)
+each by size (suc n) images answers =
+    let o = by (take size images) in
+    let rest = each by size n (drop size images) (drop answer-bytes answers) in
+    (o .1 ++ rest .0, in-a-row (numbers (o .0)) ++ rest .1)
+
+-- "Judged once, run on many": it "answers how many, and leaves image k and answer k exactly as `run` would".
+unfoldable pub run-each-call : List ℕ → List ℕ → ℕ → ℕ → List ℕ → Called (List ℕ)
+run-each-call text images size budget answers =
+    let n = how-many size images answers in
+    let o = each (λ M. run text M budget) size n images answers in
+    record { returns = n; slice = o .1; lent = o .0 }
 
 -- A call kept its promise: what it returned, the answer slice and what was lent are the definition's.
 pub record Kept {A : Type 0} (by : Called A) (returned : ℕ) (slice : List ℕ) (lent : A) : Type 0 where
