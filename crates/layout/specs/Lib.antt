@@ -5,3 +5,6 @@ pub mod Stack
 pub mod Words
 pub mod Code
 pub mod Table
+pub mod Instructions
+pub mod Planned
+pub mod Operands

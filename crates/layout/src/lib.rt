@@ -1,6 +1,9 @@
-// How lent buffers hold things, and every number of that: tokens, trees and programs, declarations, the stack of typing.
+// How lent buffers hold things, and every number of that: tokens, trees and programs, declarations, the stack of typing, instructions.
 pub mod head;
+pub mod instruction;
 pub mod limit;
+pub mod operand;
+pub mod planned;
 pub mod row;
 pub mod size;
 pub mod slot;
@@ -17,8 +20,8 @@ ghost use Rattle.meaning.specs.Tree.{kind-number};
 ghost use Rattle.layout.specs.Words.{unit-words, unit};
 ghost use Rattle.layout.specs.Table.{kind-of};
 
-// What a stage of judging answers: how many tokens or declarations there are so far and how many words were written; or the refusal and
-// its place.
+// What a stage of judging answers: how many tokens, declarations or operands that wait there are so far, and how many words were written;
+// or the refusal and its place.
 pub enum Stage {
     Done { count: usize, size: usize },
     Refused { refusal: Refusal, place: usize },

@@ -5,7 +5,6 @@ use mathlib.Core.Path.{_≡_, refl, sym, ap, _∙_}
 use mathlib.Core.List.{List, _++_, append-assoc}
 use lib.ListN.{length, getD, take}
 use lib.Seq.{sets}
-use Rattle.meaning.specs.declared.Kind.{Kind}
 use Rattle.meaning.specs.declared.Refusal.{Refusal}
 use Rattle.meaning.specs.Codes.{Out, ok, after}
 use Rattle.meaning.specs.Tokens.{the, numbered, reserved, words, signs, marks}
@@ -14,20 +13,19 @@ use Rattle.meaning.specs.Program.{Code, Program, nothing, choice, cycle, alone}
 use Rattle.meaning.specs.Memory.{Declarations, need}
 use Rattle.meaning.specs.Typing.{joined, typed-condition, typed-statement, typed-statements, typed-program, scope}
 use Rattle.layout.specs.Words.{unit, headed}
-use Rattle.layout.specs.Heads.{place-word}
+use Rattle.layout.specs.Heads.{place-word, condition-word}
 use Rattle.layout.specs.Sizes.{tree-limit}
 use Rattle.layout.specs.Code.{code-words, program-words}
+use Rattle.layout.specs.Stack.{slot-lanes}
 use Rattle.layout.specs.Table.{entries}
 use Rattle.typing_expressions.specs.declared.Point.{Point}
-use Rattle.typing_expressions.specs.declared.Typing.{Typing}
-use Rattle.typing_expressions.specs.declared.Typing.the-variants as typing
-use Rattle.typing_expressions.specs.Rows.{Listed-length, end-of, closed}
-use Rattle.typing_expressions.specs.Answers.{Typing-room, Types-as}
+use Rattle.typing_expressions.specs.Rows.{Rows, Listed-length, end-of, closed}
+use Rattle.typing_expressions.specs.Answers.{Typing-room, Typed-to, Types-as}
 use Rattle.typing_expressions.proofs.Names.{length-entries}
 use Rattle.typing_expressions.proofs.Tables.{listed-one}
 use Rattle.layout.specs.declared.Stage.{Stage}
 use Rattle.layout.specs.declared.Stage.the-variants.{Done, Refused}
-use Rattle.typing_simple.specs.Shapes.{part}
+use Rattle.typing_simple.specs.Shapes.{part, Condition}
 use Rattle.typing_simple.specs.Answers.{Walks, Walks-at, Steps-on, Scope-open, Scope-closed}
 use Rattle.typing_simple.proofs.Words.{length-part, rest-long, then, kept, inside, long-of, unit-over}
 use Rattle.typing_simple.proofs.Outcomes
@@ -83,34 +81,48 @@ braces-ok {tree = tree} {at = at} g b x s = let v = scope-walks g (typed-stateme
       on = λ n z q. let k = v .on n z q in record { rows = k .rows; more = k .more; room = omega (arith, k .room, rest-long tree 3 (at .size) (b .long)); words = k .words };
     }
 
+-- ---- conditions
+pub choice-condition : {text tree : List ℕ} {r a b : ℕ} {s : Stmt} → a ≡ getD tree condition-word 0 → (k : Choice-of r text tree a b s) → Condition text tree (k .test)
+choice-condition e k = record { long = omega (arith, k .long); is = rw (← e) (k .its-test) }
+
+pub cycle-condition : {text tree : List ℕ} {r a : ℕ} {s : Stmt} → a ≡ getD tree condition-word 0 → (k : Cycle-of r text tree a s) → Condition text tree (k .test)
+cycle-condition e k = record { long = omega (arith, k .long); is = rw (← e) (k .its-test) }
+
 -- ---- `if`
 module _ {text tree T code stack : List ℕ} {at : Point} {r a b : ℕ} {s : Stmt} (g : Typing-room text tree T code stack at) (k : Choice-of r text tree a b s)
-    {code₁ : List ℕ} {p : ℕ} {t : Typing} (ep : p ≡ getD tree place-word 0)
-    (te : Types-as (take (at .size + 6) code) code₁ (at .size + 6 + length (part tree 6 (6 + a))) (entries text T (at .count)) t (typed-condition (at .context) p (k .test) (entries text T (at .count)))) where
-  test-long : length (part tree 6 (6 + a)) ≡ a
-  test-long = length-part tree 6 (6 + a) (omega arith) (omega (arith, k .long)) ∙ omega arith
-
-  choice-is : typed-statement (at .context) s (entries text T (at .count)) ≡ after (typed-condition (at .context) p (k .test) (entries text T (at .count))) (λ v Δ.
+    {code₁ stack₁ : List ℕ} {t : Stage}
+    (te : Types-as (take (at .size + 6) code) code₁ stack₁ (at .count) (at .size + (6 + a)) (entries text T (at .count)) t (typed-condition (at .context) (getD tree place-word 0) (k .test) (entries text T (at .count)))) where
+  choice-is : typed-statement (at .context) s (entries text T (at .count)) ≡ after (typed-condition (at .context) (getD tree place-word 0) (k .test) (entries text T (at .count))) (λ v Δ.
       after (scope (typed-statement (joined (v .lanes) (at .context)) (k .first)) Δ) (λ x Θ.
       after (scope (typed-statement (joined (v .lanes) (at .context)) (k .second)) Θ) (λ y Ξ. ok (choice (getD tree place-word 0) (v .code) x y) Ξ)))
   unfolding typed-statement
-  choice-is = rw (k .is, ep)
+  choice-is = rw (k .is)
 
-  pub choice-test : {U code′ : List ℕ} {c : Refusal} {q : ℕ} → t ≡ typing.Refused c q → Walks-at at text tree T U code code′ s (Refused c q)
-  choice-test h = Outcomes.no-walks refl (choice-is ∙ rw (Outcomes.shows-no te h))
+  pub choice-test : {U code′ : List ℕ} {c : Refusal} {q : ℕ} → t ≡ Refused c q → Walks-at at text tree T U code code′ s t
+  choice-test h = Outcomes.no-walks h (choice-is ∙ rw (Outcomes.shows-no te h))
 
-  module _ {j : Kind} {n u D : ℕ} (h : t ≡ typing.Typed j n u) (ed : D ≡ joined n (at .context)) where
+  module _ {n from l D : ℕ} (h : t ≡ Done n from) (el : l ≡ slot-lanes stack₁ 0) (ed : D ≡ joined l (at .context)) where
+    -- The condition has declared nothing, and its code ends where the first branch begins.
+    pub choice-on : Typed-to (take (at .size + 6) code) code₁ (at .count) (at .size + (6 + a)) n from (te .becomes)
+    choice-on = te .on n from h
+
+    pub choice-rows : Rows text T n
+    choice-rows = rw (choice-on .none-new) (g .rows)
+
     pub choice-listed : Listed-length D
-    choice-listed = rw ed (listed-joined (condition-listed (g .listed) (g .rows) (k .test) p te h) (g .listed))
+    choice-listed = rw ed (listed-joined (rw el (condition-listed (g .listed) (g .rows) (k .test) (getD tree place-word 0) te h)) (g .listed))
 
-    module _ {T₁ code₂ : List ℕ} {one : Stage} (fi : Walks text T₁ (take (at .size + (6 + a)) code₁) code₂ (at .count) (at .size + (6 + a) + length (part tree (6 + a) (6 + a + b))) one (scope (typed-statement D (k .first)) (entries text T (at .count)))) where
+    module _ {T₁ code₂ : List ℕ} {one : Stage} (its-first : Walks text T₁ (take from code₁) code₂ n (from + length (part tree (6 + a) (6 + a + b))) one (scope (typed-statement D (k .first)) (entries text T n))) where
+      pub fi : Walks text T₁ (take (at .size + (6 + a)) code₁) code₂ (at .count) (at .size + (6 + a) + length (part tree (6 + a) (6 + a + b))) one (scope (typed-statement D (k .first)) (entries text T (at .count)))
+      fi = rw (choice-on .none-new, choice-on .ends) at its-first
+
       pub choice-first : {code′ : List ℕ} {c : Refusal} {q : ℕ} → one ≡ Refused c q → Walks-at at text tree T T₁ code code′ s one
-      choice-first i = Outcomes.no-walks i (choice-is ∙ rw (Outcomes.shows-ok te h) (rw (← ed) (rw (Outcomes.walks-no fi i))))
+      choice-first i = Outcomes.no-walks i (choice-is ∙ rw (Outcomes.shows-ok te h) (rw (← el, ← ed) (rw (Outcomes.walks-no fi i))))
 
       module _ {m y : ℕ} (i : one ≡ Done m y) {T₂ code₃ : List ℕ} {two : Stage}
           (se : Walks text T₂ (take y code₂) code₃ m (y + length (part tree (6 + a + b) (length tree))) two (scope (typed-statement D (k .second)) (entries text T₁ m))) where
         pub choice-second : {code′ : List ℕ} {c : Refusal} {q : ℕ} → two ≡ Refused c q → Walks-at at text tree T T₂ code code′ s two
-        choice-second f = Outcomes.no-walks f (choice-is ∙ rw (Outcomes.shows-ok te h) (rw (← ed) (rw (Outcomes.walks-ok fi i) (rw (Outcomes.walks-no se f)))))
+        choice-second f = Outcomes.no-walks f (choice-is ∙ rw (Outcomes.shows-ok te h) (rw (← el, ← ed) (rw (Outcomes.walks-ok fi i) (rw (Outcomes.walks-no se f)))))
 
         module _ {o z : ℕ} (f : two ≡ Done o z) (l₁ : length code₁ ≡ length code) (l₂ : length code₂ ≡ length code₁) (l₃ : length code₃ ≡ length code₂) where
           -- Where each part of the code ends.
@@ -131,7 +143,7 @@ module _ {text tree T code stack : List ℕ} {at : Point} {r a b : ℕ} {s : Stm
               let far : z ≤ at .size + length tree = omega (arith, x .room, v .room, k .long) in
               record {
                 first = long-of code₁ code₂ (program-words (fi .program)) (at .size + (6 + a)) y (x .words) below (omega (arith, g .code-room, k .long));
-                test = omega (arith, test-long, long-of code code₁ (code-words (te .becomes)) (at .size + 6) (at .size + 6 + length (part tree 6 (6 + a))) (te .words j n u h) (omega (arith, test-long, g .code-room, k .long)) (omega (arith, g .code-room, k .long)));
+                test = omega (arith, long-of code code₁ (code-words (te .becomes)) (at .size + 6) (at .size + (6 + a)) (choice-on .words) (omega (arith, g .code-room, k .long)) (omega (arith, g .code-room, k .long)));
                 second = omega (arith, long-of code₂ code₃ (program-words (se .program)) y z (v .words) (omega (arith, g .code-room)) below);
                 last = far;
                 inside = omega (arith, g .code-room);
@@ -139,7 +151,7 @@ module _ {text tree T code stack : List ℕ} {at : Point} {r a b : ℕ} {s : Stm
 
           -- The same, as the long head wants it: no program is named.
           pub record Choice-head : Type 0 where
-            pub first : at .size + (6 + a) ≤ y
+            pub first : from ≤ y
             pub low : y ≤ tree-limit
             pub room : (at .size + 6 ≤ z) × (z ≤ length code₃) × (z ≤ tree-limit)
 
@@ -147,7 +159,7 @@ module _ {text tree T code stack : List ℕ} {at : Point} {r a b : ℕ} {s : Stm
           choice-head =
               let d = choice-ends in
               record {
-                first = omega (arith, d .first);
+                first = omega (arith, d .first, choice-on .ends);
                 low = omega (arith, d .second, d .last, g .short);
                 room = (omega (arith, d .first, d .second), d .inside, omega (arith, d .last, g .short));
               }
@@ -156,45 +168,51 @@ module _ {text tree T code stack : List ℕ} {at : Point} {r a b : ℕ} {s : Stm
           written =
               let e = code-words (te .becomes) in
               let x = program-words (fi .program) in
-              let from : (at .size) + 6 + length (part tree 6 (6 + a)) ≡ at .size + (6 + a) = omega (arith, test-long) in
-              let one = then (take (at .size + 6) code) e x (rw from at (te .words j n u h)) (fi .on m y i .words) in
+              let one = then (take (at .size + 6) code) e x (choice-on .words) (fi .on m y i .words) in
               then (take (at .size + 6) code) (e ++ x) (program-words (se .program)) one (se .on o z f .words) ∙ rw (append-assoc e x (program-words (se .program)))
 
-          pub choice-ok : {code₄ : List ℕ} → take z code₄ ≡ take (at .size) code₃ ++ headed 19 (getD tree place-word 0) (unit a (y - (at .size + (6 + a))) 0) (part code₃ (at .size + 6) z)
+          pub choice-ok : {code₄ : List ℕ} → take z code₄ ≡ take (at .size) code₃ ++ headed 19 (getD tree place-word 0) (unit a (y - from) 0) (part code₃ (at .size + 6) z)
               → Walks-at at text tree T T₂ code code₄ s (Done o z)
           choice-ok {code₄} w =
               let d = choice-ends in
               let v = se .on o z f in
-              let size-of : y - (at .size + (6 + a)) ≡ length (program-words (fi .program)) = omega (arith, d .first) in
-              Outcomes.on-walks refl (choice-is ∙ rw (Outcomes.shows-ok te h) (rw (← ed) (rw (Outcomes.walks-ok fi i) (rw (Outcomes.walks-ok se f))))) (record {
+              let size-of : y - from ≡ length (program-words (fi .program)) = omega (arith, d .first, choice-on .ends) in
+              Outcomes.on-walks refl (choice-is ∙ rw (Outcomes.shows-ok te h) (rw (← el, ← ed) (rw (Outcomes.walks-ok fi i) (rw (Outcomes.walks-ok se f))))) (record {
                 rows = v .rows;
                 more = omega (arith, fi .on m y i .more, v .more);
                 room = d .last;
-                words = choice-words code code₃ code₄ (at .size) z (getD tree place-word 0) (te .becomes) (fi .program) (se .program) written (omega (arith, d .first, d .second)) (omega (arith, g .code-room, k .long)) (rw (d .test) at (rw size-of at w));
+                words = choice-words code code₃ code₄ (at .size) z (getD tree place-word 0) (te .becomes) (fi .program) (se .program) written (omega (arith, d .first, d .second)) (omega (arith, g .code-room, k .long)) (rw (← d .test, ← size-of) w);
               })
 
 -- ---- `while`
 module _ {text tree T code stack : List ℕ} {at : Point} {r a : ℕ} {s : Stmt} (g : Typing-room text tree T code stack at) (k : Cycle-of r text tree a s)
-    {code₁ : List ℕ} {p : ℕ} {t : Typing} (ep : p ≡ getD tree place-word 0)
-    (te : Types-as (take (at .size + 6) code) code₁ (at .size + 6 + length (part tree 6 (6 + a))) (entries text T (at .count)) t (typed-condition (at .context) p (k .test) (entries text T (at .count)))) where
-  turn-long : length (part tree 6 (6 + a)) ≡ a
-  turn-long = length-part tree 6 (6 + a) (omega arith) (k .long) ∙ omega arith
-
-  cycle-is : typed-statement (at .context) s (entries text T (at .count)) ≡ after (typed-condition (at .context) p (k .test) (entries text T (at .count))) (λ v Δ.
+    {code₁ stack₁ : List ℕ} {t : Stage}
+    (te : Types-as (take (at .size + 6) code) code₁ stack₁ (at .count) (at .size + (6 + a)) (entries text T (at .count)) t (typed-condition (at .context) (getD tree place-word 0) (k .test) (entries text T (at .count)))) where
+  cycle-is : typed-statement (at .context) s (entries text T (at .count)) ≡ after (typed-condition (at .context) (getD tree place-word 0) (k .test) (entries text T (at .count))) (λ v Δ.
       after (scope (typed-statement (joined (v .lanes) (at .context)) (k .body)) Δ) (λ x Θ. ok (cycle (getD tree place-word 0) (v .code) x) Θ))
   unfolding typed-statement
-  cycle-is = rw (k .is, ep)
+  cycle-is = rw (k .is)
 
-  pub cycle-test : {U code′ : List ℕ} {c : Refusal} {q : ℕ} → t ≡ typing.Refused c q → Walks-at at text tree T U code code′ s (Refused c q)
-  cycle-test h = Outcomes.no-walks refl (cycle-is ∙ rw (Outcomes.shows-no te h))
+  pub cycle-test : {U code′ : List ℕ} {c : Refusal} {q : ℕ} → t ≡ Refused c q → Walks-at at text tree T U code code′ s t
+  cycle-test h = Outcomes.no-walks h (cycle-is ∙ rw (Outcomes.shows-no te h))
 
-  module _ {j : Kind} {n u D : ℕ} (h : t ≡ typing.Typed j n u) (ed : D ≡ joined n (at .context)) where
+  module _ {n from l D : ℕ} (h : t ≡ Done n from) (el : l ≡ slot-lanes stack₁ 0) (ed : D ≡ joined l (at .context)) where
+    -- The condition has declared nothing, and its code ends where the body begins.
+    pub cycle-on : Typed-to (take (at .size + 6) code) code₁ (at .count) (at .size + (6 + a)) n from (te .becomes)
+    cycle-on = te .on n from h
+
+    pub cycle-rows : Rows text T n
+    cycle-rows = rw (cycle-on .none-new) (g .rows)
+
     pub cycle-listed : Listed-length D
-    cycle-listed = rw ed (listed-joined (condition-listed (g .listed) (g .rows) (k .test) p te h) (g .listed))
+    cycle-listed = rw ed (listed-joined (rw el (condition-listed (g .listed) (g .rows) (k .test) (getD tree place-word 0) te h)) (g .listed))
 
-    module _ {T₁ code₂ : List ℕ} {one : Stage} (bo : Walks text T₁ (take (at .size + (6 + a)) code₁) code₂ (at .count) (at .size + (6 + a) + length (part tree (6 + a) (length tree))) one (scope (typed-statement D (k .body)) (entries text T (at .count)))) where
+    module _ {T₁ code₂ : List ℕ} {one : Stage} (its-body : Walks text T₁ (take from code₁) code₂ n (from + length (part tree (6 + a) (length tree))) one (scope (typed-statement D (k .body)) (entries text T n))) where
+      pub bo : Walks text T₁ (take (at .size + (6 + a)) code₁) code₂ (at .count) (at .size + (6 + a) + length (part tree (6 + a) (length tree))) one (scope (typed-statement D (k .body)) (entries text T (at .count)))
+      bo = rw (cycle-on .none-new, cycle-on .ends) at its-body
+
       pub cycle-body : {code′ : List ℕ} {c : Refusal} {q : ℕ} → one ≡ Refused c q → Walks-at at text tree T T₁ code code′ s one
-      cycle-body i = Outcomes.no-walks i (cycle-is ∙ rw (Outcomes.shows-ok te h) (rw (← ed) (rw (Outcomes.walks-no bo i))))
+      cycle-body i = Outcomes.no-walks i (cycle-is ∙ rw (Outcomes.shows-ok te h) (rw (← el, ← ed) (rw (Outcomes.walks-no bo i))))
 
       module _ {m z : ℕ} (i : one ≡ Done m z) (l₁ : length code₁ ≡ length code) (l₂ : length code₂ ≡ length code₁) where
         pub record Cycle-ends : Type 0 where
@@ -209,7 +227,7 @@ module _ {text tree T code stack : List ℕ} {at : Point} {r a : ℕ} {s : Stmt}
             let x = bo .on m z i in
             let far : z ≤ at .size + length tree = omega (arith, x .room, k .long) in
             record {
-              test = omega (arith, turn-long, long-of code code₁ (code-words (te .becomes)) (at .size + 6) (at .size + 6 + length (part tree 6 (6 + a))) (te .words j n u h) (omega (arith, turn-long, g .code-room, k .long)) (omega (arith, g .code-room, k .long)));
+              test = omega (arith, long-of code code₁ (code-words (te .becomes)) (at .size + 6) (at .size + (6 + a)) (cycle-on .words) (omega (arith, g .code-room, k .long)) (omega (arith, g .code-room, k .long)));
               body = omega (arith, long-of code₁ code₂ (program-words (bo .program)) (at .size + (6 + a)) z (x .words) (omega (arith, g .code-room)) (omega (arith, g .code-room, k .long)));
               last = far;
               inside = omega (arith, g .code-room);
@@ -223,9 +241,8 @@ module _ {text tree T code stack : List ℕ} {at : Point} {r a : ℕ} {s : Stmt}
         cycle-ok {code₃} w =
             let d = cycle-ends in
             let x = bo .on m z i in
-            let from : (at .size) + 6 + length (part tree 6 (6 + a)) ≡ at .size + (6 + a) = omega (arith, turn-long) in
-            let written = then (take (at .size + 6) code) (code-words (te .becomes)) (program-words (bo .program)) (rw from at (te .words j n u h)) (x .words) in
-            Outcomes.on-walks refl (cycle-is ∙ rw (Outcomes.shows-ok te h) (rw (← ed) (rw (Outcomes.walks-ok bo i)))) (record {
+            let written = then (take (at .size + 6) code) (code-words (te .becomes)) (program-words (bo .program)) (cycle-on .words) (x .words) in
+            Outcomes.on-walks refl (cycle-is ∙ rw (Outcomes.shows-ok te h) (rw (← el, ← ed) (rw (Outcomes.walks-ok bo i)))) (record {
               rows = x .rows;
               more = x .more;
               room = d .last;
@@ -303,7 +320,7 @@ module _ {text tree T U code₀ code stack : List ℕ} {all : Stage} (g : Progra
         accepted = λ i k x.
             let a : n ≡ i = cc in
             let c : z ≡ k = cc in
-            rw (← a, ← c) (record { rows = v .on n z refl .rows; fits = omega (arith, v .on n z refl .room, g .code-room); words = v .on n z refl .words });
+            rw (← a, ← c) (record { rows = v .on n z refl .rows; fits = omega (arith, v .on n z refl .room, g .code-room); short = omega (arith, v .on n z refl .room, g .few); words = v .on n z refl .words });
       }
       go (Refused c p) v = record {
         program = nothing;

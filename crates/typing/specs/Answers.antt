@@ -45,10 +45,12 @@ unfoldable pub program-out : Stage → Program → List ℕ → List ℕ → Out
 program-out (Done n z) P text table = ok P (entries text table n)
 program-out (Refused c p) P text table = refused c p
 
--- Of an accepted text: that the table is as a run wants it, and its program's words, which the buffer has room for.
+-- Of an accepted text: that the table is as a run wants it, and its program's words, which the buffer has room for, and which are no more
+-- than the longest tree has.
 pub record Accepts (text table code : List ℕ) (n z : ℕ) (P : Program) : Type 0 where
   pub rows : Rows text table n
   pub fits : z ≤ length code
+  pub short : z ≤ tree-limit
   pub words : take z code ≡ program-words P
 
 -- The program l was typed as the definition says.

@@ -1,5 +1,5 @@
 -- Each way through the typing of a name, an operand, an operator and a declaration gives what the definition says.
-use Prim.Native.Nat.{ℕ, zero, suc, _+_, _-_, _≤_, _<_}
+use Prim.Native.Nat.{ℕ, suc, _+_, _-_, _*_, _≤_, _<_}
 use native.Mathlib.Omega.{arith}
 use native.Mathlib.Nat.{add-sub-cancel-left}
 use mathlib.Core.Path.{_≡_, refl, sym, _∙_}
@@ -18,20 +18,21 @@ use Rattle.meaning.specs.Tree.{Name, kind-number}
 use Rattle.meaning.specs.Memory.{Declared, Declarations, declared, whole, next-multiple, bit}
 use Rattle.meaning.specs.Typing.{find, fits, variable-named, declare-name}
 use Rattle.layout.specs.Words.{boolean-tag, sign-of, operator-of}
-use Rattle.layout.specs.Stack.{slot-kind, slot-lanes}
+use Rattle.layout.specs.Stack.{with-slot}
 use Rattle.layout.proofs.Operators.{operator-back, sign-back}
 use Rattle.layout.specs.Table.{word-of, kind-of, entry, entries, with-row, kind-column, lanes-column}
-use Rattle.laws.specs.Sound.{Spelled}
+use Rattle.laws.specs.Sound.{Spelled, stack-limit}
 use Rattle.typing_expressions.specs.declared.Point.{Point}
 use Rattle.typing_expressions.specs.declared.Found.{Found}
 use Rattle.typing_expressions.specs.declared.Found.the-variants.{At, Nothing}
-use Rattle.typing_expressions.specs.declared.Typing.{Typing}
-use Rattle.typing_expressions.specs.declared.Typing.the-variants.{Typed, Refused}
+use Rattle.layout.specs.declared.Stage.{Stage}
+use Rattle.layout.specs.declared.Stage.the-variants.{Done, Refused}
 use Rattle.typing_expressions.specs.Rows.{Spans, Listed-length, Rows, spelled, number-of, Finds, end-of}
 use Rattle.typing_expressions.specs.Nodes.{Tree-node, a-number, a-boolean, a-name, a-mask, a-unary, a-binary, node-tag, node-first, node-second, arity, Slot, step, slots, Is-node, Is-leaf, Node-at}
-use Rattle.typing_expressions.specs.Answers.{entry-out, Types-node, There-is, Types-unary, Types-binary, number-out, Declares-name}
+use Rattle.typing_expressions.specs.Answers.{Types-node, There-is, Types-name, Types-unary, Types-binary, number-out, Declares-name}
 use Rattle.typing_expressions.proofs.Tags.{arity-0, arity-2, unary-low, binary-range, Class, leaf, unary, binary, class}
 use Rattle.typing_expressions.proofs.Names.{length-entries, entries-at}
+use Rattle.typing_expressions.proofs.Slots.{node-refused, node-put}
 use Rattle.typing_expressions.proofs.Tables.{Added, added, added-entries, added-rows}
 
 -- ---- a name
@@ -49,21 +50,23 @@ module _ {text table : List ℕ} {count place end : ℕ} {r : Found} (f : Finds 
   unfolding number-of
   found-low {i} h = omega (arith, find-low (spelled text place end) 0 (entries text table count) (sym (rw h at (f .is))), length-entries text table count)
 
-  pub name-5 : (C : ℕ) → r ≡ Nothing → Types-node C (a-name place (spelled text place end)) [] (entries text table count) (Refused UnknownName place)
-  unfolding entry-out step variable-named number-of
-  name-5 C h = record { is = rw (← f .is, h) }
+  found-at : {i : ℕ} → r ≡ At i → (d : Declared) → getD (entries text table count) i d ≡ entry text table i
+  found-at {i} h d = entries-at text table count i d (found-low h)
 
-  module _ (C : ℕ) {i n : ℕ} {b : Bool} (h : r ≡ At i) (en : n ≡ word-of table i lanes-column) (eb : b ≡ fits C n) where
-    its : (d : Declared) → getD (entries text table count) i d ≡ entry text table i
-    its d = entries-at text table count i d (found-low h)
+module _ {text table : List ℕ} {at : Point} {place end : ℕ} {r : Found} (f : Finds text table (at .count) place end r) {j : ℕ} {before after : List ℕ} where
+  pub name-5 : r ≡ Nothing → Types-name at place end text table j before after (Refused UnknownName place)
+  unfolding step variable-named number-of
+  name-5 h = node-refused (rw (← f .is, h))
 
-    pub name-9 : b ≡ false → Types-node C (a-name place (spelled text place end)) [] (entries text table count) (Refused WrongLength place)
-    unfolding entry-out step variable-named number-of declared entry
-    name-9 q = record { is = rw (← f .is, h) (rw (its, ← en, ← eb, q)) }
+  module _ {i n : ℕ} {b : Bool} (h : r ≡ At i) (en : n ≡ word-of table i lanes-column) (eb : b ≡ fits (at .context) n) where
+    pub name-9 : b ≡ false → Types-name at place end text table j before after (Refused WrongLength place)
+    unfolding step variable-named number-of declared entry
+    name-9 q = node-refused (rw (← f .is, h) (rw (found-at f h, ← en, ← eb, q)))
 
-    pub name-ok : {k : Kind} → b ≡ true → k ≡ kind-of (word-of table i kind-column) → Types-node C (a-name place (spelled text place end)) [] (entries text table count) (Typed k n i)
-    unfolding entry-out step variable-named number-of declared entry
-    name-ok q ek = record { is = rw (← f .is, h) (rw (its, ← en, ← eb, q) (rw ek)) }
+    pub name-ok : {k : Kind} → b ≡ true → k ≡ kind-of (word-of table i kind-column) → after ≡ with-slot before j (kind-number k) n i → j * 3 + 3 ≤ length before
+        → Types-name at place end text table j before after (Done (j + 1) (at .size))
+    unfolding step variable-named number-of declared entry
+    name-ok q ek ea room = node-put ea room (rw (← f .is, h) (rw (found-at f h, ← en, ← eb, q) (rw ek)))
 
 -- ---- an operand
 -- The nodes that take no operands, by their words.
@@ -96,32 +99,38 @@ leaf-low {tag = tag} {n = n} l = go (class n) (l .is .tag-is) (l .alone)
     go unary q z = absurd (omega arith)
     go binary q z = absurd (omega arith)
 
-module _ {text : List ℕ} {a b C : ℕ} {l : List Slot} {Γ : Declarations} where
-  pub number-on : {n : Tree-node} → Operand text a b 1 n → Types-node C n l Γ (Typed int 1 a)
-  unfolding entry-out step
-  number-on is-number = record { is = refl }
-
-  pub true-on : {n : Tree-node} → Operand text a b 24 n → Types-node C n l Γ (Typed bool 1 1)
-  unfolding entry-out step bit
-  true-on is-true = record { is = refl }
-
-  pub false-on : {n : Tree-node} → Operand text a b 25 n → Types-node C n l Γ (Typed bool 1 0)
-  unfolding entry-out step bit
-  false-on is-false = record { is = refl }
-
-  pub mask-on : {tag : ℕ} {n : Tree-node} → Operand text a b tag n → (tag ≡ 1 → ⊥) → (tag ≡ 2 → ⊥) → (tag ≡ 24 → ⊥) → (tag ≡ 25 → ⊥) → Types-node C n l Γ (Typed bool C 0)
-  unfolding entry-out step
-  mask-on is-number p q r s = absurd (p refl)
-  mask-on (is-name x y) p q r s = absurd (q refl)
-  mask-on is-mask p q r s = record { is = refl }
-  mask-on is-true p q r s = absurd (r refl)
-  mask-on is-false p q r s = absurd (s refl)
-
-  pub name-on : {r : Typing} {n : Tree-node} → Operand text a b 2 n → Types-node C (a-name a (spelled text a b)) [] Γ r → Types-node C n l Γ r
+-- A constant or current_mask that is put into its slot.
+module _ {text : List ℕ} {at : Point} {a b j : ℕ} {l : List Slot} {Γ : Declarations} {before after : List ℕ} (room : j * 3 + 3 ≤ length before) where
+  pub number-on : {n : Tree-node} → Operand text a b 1 n → after ≡ with-slot before j (kind-number int) 1 a → Types-node at n l Γ j before after (Done (j + 1) (at .size))
   unfolding step
-  name-on (is-name {x} s e) t =
-      let z : b - a ≡ length x = rw e (add-sub-cancel-left a (length x)) in
-      record { is = t .is ∙ rw (z, s .is) }
+  number-on is-number e = node-put e room refl
+
+  pub true-on : {n : Tree-node} → Operand text a b 24 n → after ≡ with-slot before j (kind-number bool) 1 1 → Types-node at n l Γ j before after (Done (j + 1) (at .size))
+  unfolding step bit
+  true-on is-true e = node-put e room refl
+
+  pub false-on : {n : Tree-node} → Operand text a b 25 n → after ≡ with-slot before j (kind-number bool) 1 0 → Types-node at n l Γ j before after (Done (j + 1) (at .size))
+  unfolding step bit
+  false-on is-false e = node-put e room refl
+
+  pub mask-on : {n : Tree-node} → Operand text a b 23 n → after ≡ with-slot before j (kind-number bool) (at .context) 0 → Types-node at n l Γ j before after (Done (j + 1) (at .size))
+  unfolding step
+  mask-on is-mask e = node-put e room refl
+
+-- A leaf of another tag is a name.
+pub a-name-left : {text : List ℕ} {a b tag : ℕ} {n : Tree-node} → Operand text a b tag n → (tag ≡ 1 → ⊥) → (tag ≡ 24 → ⊥) → (tag ≡ 25 → ⊥) → (tag ≡ 23 → ⊥) → Operand text a b 2 n
+a-name-left is-number p q r s = absurd (p refl)
+a-name-left (is-name x y) p q r s = is-name x y
+a-name-left is-mask p q r s = absurd (s refl)
+a-name-left is-true p q r s = absurd (q refl)
+a-name-left is-false p q r s = absurd (r refl)
+
+pub name-on : {text : List ℕ} {at : Point} {a b j : ℕ} {l : List Slot} {Γ : Declarations} {before after : List ℕ} {r : Stage} {n : Tree-node}
+    → Operand text a b 2 n → Types-node at (a-name a (spelled text a b)) [] Γ j before after r → Types-node at n l Γ j before after r
+unfolding step
+name-on {a = a} {b = b} (is-name {x} s e) t =
+    let z : b - a ≡ length x = rw e (add-sub-cancel-left a (length x)) in
+    record { is = t .is ∙ rw (z, s .is); on = t .on }
 
 pub name-within : {text : List ℕ} {a b : ℕ} {n : Tree-node} → Operand text a b 2 n → Spans text a b
 name-within (is-name s e) = record { order = omega arith; inside = omega (arith, s .inside) }
@@ -142,63 +151,66 @@ module _ {text tree : List ℕ} {i h : ℕ} {n : Tree-node} (a : Node-at text tr
   two-operands l u = omega (arith, arity-2 n (a .is .tag-is) l u, a .operands)
 
   -- A node of a lower tag has none.
+  pub leaf-alone : getD tree i 0 < 48 → arity n ≡ 0
+  leaf-alone l = sym (arity-0 n (a .is .tag-is) l)
+
   pub no-operands : getD tree i 0 < 48 → There-is (Is-leaf text (getD tree i 0) (getD tree (i + 1) 0) (getD tree (i + 2) 0))
-  no-operands l = record { the = n; is = record { is = a .is; alone = sym (arity-0 n (a .is .tag-is) l) } }
+  no-operands l = record { the = n; is = record { is = a .is; alone = leaf-alone l } }
 
-module _ (stack : List ℕ) where
-  top : {h : ℕ} → 1 ≤ h → slots stack h ≡ (kind-of (slot-kind stack (h - 1)), slot-lanes stack (h - 1)) ∷ slots stack (h - 1)
-  unfolding slots
-  top {h = zero} l = absurd (omega arith)
-  top {h = suc h} l = let e : suc h - 1 ≡ h = omega arith in rw e
+  -- Behind the stack there is room for it.
+  pub leaf-room : (stack : List ℕ) → getD tree i 0 < 48 → stack-limit * 3 ≤ length stack → h * 3 + 3 ≤ length stack
+  leaf-room stack l room = omega (arith, arity-0 n (a .is .tag-is) l, a .fits)
 
-  module _ {text : List ℕ} {C p q t b h m : ℕ} {k : Kind} {Γ : Declarations} {r : Typing} (ep : p ≡ q) (ek : k ≡ kind-of (slot-kind stack (h - 1))) (em : m ≡ slot-lanes stack (h - 1)) where
-    pub unary-node : {n : Tree-node} {u : Unary} → Is-node text t q b n → 128 ≤ t → 1 ≤ h → u ≡ sign-of t → Types-unary u p k m r → Types-node C n (slots stack h) Γ r
-    unfolding node-tag node-first
-    unary-node {n} {u} i l s eu f = go (class n) (i .tag-is) (i .first-is)
-      where
-        go : {n : Tree-node} → Class n → node-tag n ≡ t → node-first n ≡ q → Types-node C n (slots stack h) Γ r
-        go (leaf n s e) g w = absurd (omega arith)
-        go (unary {o = o}) g w =
-            let same : u ≡ o = eu ∙ rw (← g) (sign-back o) in
-            rw (top s, ← ek, ← em, w, ← ep) (rw same at (f C (slots stack (h - 1)) Γ))
-        go (binary {o = o}) g w = absurd (omega (arith, binary-range o .1))
+-- A node is put where its first operand stood, a leaf where the stack ended.
+pub leaf-node : {at : Point} {h : ℕ} {Γ : Declarations} {before after : List ℕ} {r : Stage} {n : Tree-node} → arity n ≡ 0 → Types-node at n (slots before h) Γ h before after r → Types-node at n (slots before h) Γ (h - arity n) before after r
+leaf-node {h = h} {n = n} e f = let z : h - arity n ≡ h = omega arith in rw z f
 
-    pub binary-node : {n : Tree-node} {j : Kind} {v : ℕ} {u : Binary} → Is-node text t q b n → 48 ≤ t → t < 128 → 2 ≤ h → j ≡ kind-of (slot-kind stack (h - 2)) → v ≡ slot-lanes stack (h - 2)
-        → u ≡ operator-of t → Types-binary u p j v k m r → Types-node C n (slots stack h) Γ r
-    unfolding node-tag node-first
-    binary-node {n} {j} {v} {u} i l d s ej ev eu f = go (class n) (i .tag-is) (i .first-is)
-      where
-        less : h - 1 - 1 ≡ h - 2
-        less = omega arith
+module _ {text : List ℕ} {at : Point} {p q t b h : ℕ} {Γ : Declarations} {before after : List ℕ} {r : Stage} (ep : p ≡ q) where
+  pub unary-node : {n : Tree-node} {u : Unary} → Is-node text t q b n → 128 ≤ t → 1 ≤ h → u ≡ sign-of t → Types-unary at u p (h - 1) before after r → Types-node at n (slots before h) Γ (h - arity n) before after r
+  unfolding node-tag node-first arity
+  unary-node {n} {u} i l s eu f = go (class n) (i .tag-is) (i .first-is)
+    where
+      go : {n : Tree-node} → Class n → node-tag n ≡ t → node-first n ≡ q → Types-node at n (slots before h) Γ (h - arity n) before after r
+      go (leaf n s e) g w = absurd (omega arith)
+      go (unary {o = o}) g w =
+          let same : u ≡ o = eu ∙ rw (← g) (sign-back o) in
+          let all : h - 1 + 1 ≡ h = omega arith in
+          rw (w, ← ep) (rw (same, all) at (f Γ))
+      go (binary {o = o}) g w = absurd (omega (arith, binary-range o .1))
 
-        go : {n : Tree-node} → Class n → node-tag n ≡ t → node-first n ≡ q → Types-node C n (slots stack h) Γ r
-        go (leaf n s e) g w = absurd (omega arith)
-        go (unary {o = o}) g w = absurd (omega (arith, unary-low o))
-        go (binary {o = o}) g w =
-            let same : u ≡ o = eu ∙ rw (← g) (operator-back o) in
-            rw (top {h = h} (omega arith), top {h = h - 1} (omega arith), less, ← ek, ← em, ← ej, ← ev, w, ← ep) (rw same at (f C (slots stack (h - 2)) Γ))
+  pub binary-node : {n : Tree-node} {u : Binary} → Is-node text t q b n → 48 ≤ t → t < 128 → 2 ≤ h → u ≡ operator-of t → Types-binary at u p (h - 2) before after r → Types-node at n (slots before h) Γ (h - arity n) before after r
+  unfolding node-tag node-first arity
+  binary-node {n} {u} i l d s eu f = go (class n) (i .tag-is) (i .first-is)
+    where
+      go : {n : Tree-node} → Class n → node-tag n ≡ t → node-first n ≡ q → Types-node at n (slots before h) Γ (h - arity n) before after r
+      go (leaf n s e) g w = absurd (omega arith)
+      go (unary {o = o}) g w = absurd (omega (arith, unary-low o))
+      go (binary {o = o}) g w =
+          let same : u ≡ o = eu ∙ rw (← g) (operator-back o) in
+          let all : h - 2 + 2 ≡ h = omega arith in
+          rw (w, ← ep) (rw (same, all) at (f Γ))
 
 -- ---- a declaration
 module _ {text T U : List ℕ} {at : Point} {place end n : ℕ} {k : Kind} {b : Bool} (eb : b ≡ fits (at .context) n) where
   pub declare-9 : b ≡ false → Declares-name at k n place end text T U (Refused WrongLength place)
   unfolding number-out declare-name
-  declare-9 q = record { is = rw (← eb, q); rows = λ k n w z. absurd (let y : _≡_ {A = ℕ} 0 1 = cc in omega arith) }
+  declare-9 q = record { is = rw (← eb, q); on = λ m z q. absurd (let y : _≡_ {A = ℕ} 0 1 = cc in omega arith) }
 
   module _ (q : b ≡ true) {r : Found} (f : Finds text T (at .count) place end r) where
     pub declare-6 : {i : ℕ} → r ≡ At i → Declares-name at k n place end text T U (Refused AlreadyOpen place)
     unfolding number-out declare-name number-of
-    declare-6 h = record { is = rw (← eb, q, ← f .is, h); rows = λ k n w z. absurd (let y : _≡_ {A = ℕ} 0 1 = cc in omega arith) }
+    declare-6 h = record { is = rw (← eb, q, ← f .is, h); on = λ m z q. absurd (let y : _≡_ {A = ℕ} 0 1 = cc in omega arith) }
 
     pub declare-11 : r ≡ Nothing → 64 ≤ at .count → Declares-name at k n place end text T U (Refused TooManyDeclarations place)
     unfolding number-out declare-name number-of
-    declare-11 h l = record { is = rw (← eb, q, ← f .is, h, length-entries text T (at .count), le-ltb (at .count) 64 l); rows = λ k n w z. absurd (let y : _≡_ {A = ℕ} 0 1 = cc in omega arith) }
+    declare-11 h l = record { is = rw (← eb, q, ← f .is, h, length-entries text T (at .count), le-ltb (at .count) 64 l); on = λ m z q. absurd (let y : _≡_ {A = ℕ} 0 1 = cc in omega arith) }
 
     pub declare-ok : {a : ℕ} → r ≡ Nothing → at .count < 64 → Rows text T (at .count) → Spans text place end → Listed-length n → a ≡ next-multiple (end-of T (at .count)) (whole k n) → U ≡ with-row T (at .count) place end (kind-number k) n a
-        → Declares-name at k n place end text T U (Typed k n (at .count))
+        → Declares-name at k n place end text T U (Done (at .count + 1) (at .size))
     unfolding number-out declare-name number-of
     declare-ok h l s w m ea eu =
         let more : Added T U (at .count) place end (kind-number k) n (next-multiple (end-of T (at .count)) (whole k n)) = rw (eu, ea) (added T (at .count) place end (kind-number k) n (next-multiple (end-of T (at .count)) (whole k n)) (omega (arith, s .room))) in
         record {
           is = rw (added-entries text k more, ← eb, q, ← f .is, h, length-entries text T (at .count), lt-ltb (at .count) 64 l) (rw (length-entries text T (at .count)));
-          rows = λ _ _ _ _. added-rows text k more s l w m;
+          on = λ j z e. let up : j ≡ at .count + 1 = cc in record { one-more = up; size = cc; rows = rw up (added-rows text k more s l w m) };
         }

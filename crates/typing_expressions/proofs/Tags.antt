@@ -108,15 +108,6 @@ module _ {tag : ℕ} where
       go (unary {p} {o}) h = absurd (omega (arith, unary-low o))
       go (binary {p} {o}) h = absurd (omega (arith, binary-range o .0))
 
-  pub arity-1 : (n : Tree-node) → node-tag n ≡ tag → 128 ≤ tag → 1 ≡ arity n
-  unfolding node-tag arity
-  arity-1 n h l = go (class n) h
-    where
-      go : {n : Tree-node} → Class n → node-tag n ≡ tag → 1 ≡ arity n
-      go (leaf n s e) h = absurd (omega arith)
-      go (unary {p} {o}) h = refl
-      go (binary {p} {o}) h = absurd (omega (arith, binary-range o .1))
-
   pub arity-2 : (n : Tree-node) → node-tag n ≡ tag → 48 ≤ tag → tag < 128 → 2 ≡ arity n
   unfolding node-tag arity
   arity-2 n h l u = go (class n) h

@@ -2,12 +2,11 @@
 use Prim.Native.Nat.{ℕ, zero, suc, _+_, _*_, _-_, _≤_, _<_}
 use native.Mathlib.Omega.{arith}
 use native.Mathlib.Nat.{add-zero, le-max-left, le-max-right}
-use native.Mathlib.Numerals.{add-one}
 use mathlib.Core.Path.{_≡_, refl, sym, ap, _∙_}
 use mathlib.Core.Bool.{Bool, true, false}
 use mathlib.Core.List.{List, [], _∷_, _++_, append-nil, append-assoc}
-use lib.ListN.{length, getD, take, drop, set, length-set, length-append, length-drop}
-use lib.Seq.{sets, length-sets, sets-eq, getD-set-same, getD-set-other, getD-drop, drop-drop, take-at, length-take-le}
+use lib.ListN.{length, getD, take, drop, length-append, length-drop}
+use lib.Seq.{sets, length-sets, sets-eq, getD-drop, drop-drop, take-at, length-take-le}
 use Rattle.meaning.specs.declared.Kind.{Kind}
 use Rattle.meaning.specs.declared.Refusal.{Refusal}
 use Rattle.meaning.specs.declared.Refusal.the-variants.{WrongKind, WrongLength}
@@ -22,15 +21,14 @@ use Rattle.meaning.specs.Typing as T
 use Rattle.meaning.specs.Typing.{Types, typed}
 use Rattle.layout.specs.Words.{unit, binary-tag, unary-tag, flat}
 use Rattle.layout.specs.Code.{code-words}
-use Rattle.layout.specs.Stack.{slot-kind, slot-lanes, with-slot}
+use Rattle.layout.specs.Stack.{slot-kind, slot-lanes, slot-word}
 use Rattle.layout.specs.Table.{kind-of, entries}
-use Rattle.layout.proofs.KindNumbers.{kind-back}
+use Rattle.layout.specs.declared.Stage.{Stage}
+use Rattle.layout.specs.declared.Stage.the-variants.{Done, Refused}
 use Rattle.laws.specs.Sound.{Spelled, stack as height, stack-limit, In-text, of-number, of-boolean, of-name, of-mask, of-unary, of-binary}
 use Rattle.typing_expressions.specs.declared.Point.{Point}
-use Rattle.typing_expressions.specs.declared.Typing.{Typing}
-use Rattle.typing_expressions.specs.declared.Typing.the-variants.{Typed, Refused}
-use Rattle.typing_expressions.specs.Nodes.{Tree-node, a-number, a-boolean, a-name, a-mask, a-unary, a-binary, nodes, node-tag, node-first, node-second, nodes-words, code-tag, code-place, arity, Entry, Slot, step, slots, Node-at}
-use Rattle.typing_expressions.specs.Answers.{There-is, Expression, entry-out, Types-node, Types-at, Takes, Codes-as, Codes-at, typed-out, Typing-room, Types-as, Types-expression}
+use Rattle.typing_expressions.specs.Nodes.{Tree-node, a-number, a-boolean, a-name, a-mask, a-unary, a-binary, nodes, node-tag, node-first, node-second, nodes-words, code-tag, code-place, arity, Entry, entry-at, Slot, step, slots, Node-at}
+use Rattle.typing_expressions.specs.Answers.{There-is, Expression, entry-out, Pushed, Types-node, Types-at, Codes-as, Codes-at, typed-out, Typing-room, Types-as, Types-expression}
 
 -- ---- nodes and words
 words-append : (l m : List Tree-node) → nodes-words (l ++ m) ≡ nodes-words l ++ nodes-words m
@@ -184,25 +182,6 @@ module _ (st : List ℕ) where
   slots-drop (suc a) zero q = absurd (omega arith)
   slots-drop (suc a) (suc h) q = let e : h - a ≡ suc h - suc a = omega arith in slots-drop a h (omega arith) ∙ ap (slots st) e
 
-  module _ (b x y : ℕ) where
-    slot-other : (j : ℕ) → j < b * 2 → getD (with-slot st b x y) j 0 ≡ getD st j 0
-    slot-other j l = getD-set-other (set st (b * 2) x) (suc (b * 2)) j y 0 (λ z. omega arith) ∙ getD-set-other st (b * 2) j x 0 (λ z. omega arith)
-
-    slots-set : (h : ℕ) → h ≤ b → slots (with-slot st b x y) h ≡ slots st h
-    unfolding slots
-    slots-set zero q = refl
-    slots-set (suc h) q = rw (slot-other (h * 2) (omega arith), slot-other (h * 2 + 1) (omega arith), slots-set h (omega arith))
-
-    slots-push : b * 2 + 2 ≤ length st → slots (with-slot st b x y) (b + 1) ≡ (kind-of x, y) ∷ slots st b
-    unfolding slots
-    slots-push p = rw (add-one b) (rw (first, second, slots-set b (omega arith)))
-      where
-        first : getD (with-slot st b x y) (b * 2) 0 ≡ x
-        first = getD-set-other (set st (b * 2) x) (suc (b * 2)) (b * 2) y 0 (λ z. omega arith) ∙ getD-set-same st (b * 2) x 0 (omega arith)
-
-        second : getD (with-slot st b x y) (b * 2 + 1) 0 ≡ y
-        second = rw (add-one (b * 2)) (getD-set-same (set st (b * 2) x) (suc (b * 2)) y 0 (rw (length-set st (b * 2) x) (omega arith)))
-
 -- ---- the loop
 -- The nodes from word i on, over a stack of height h: the first of them, and the others.
 pub record Node-here (text tree : List ℕ) (i h : ℕ) (rest : List Tree-node) : Type 0 where
@@ -236,19 +215,19 @@ here {text} {tree} {i} {h} e (more {n} {l = r} s a b f) l = record {
 }
 
 -- Before word i the expression e was typed: the rest of the walk is that of the nodes from there on.
-pub record Typing-from (text tree : List ℕ) (Γ : Declarations) (C : ℕ) (before code stack : List ℕ) (size i h : ℕ) (e : Expr) : Type 0 where
+pub record Typing-from (text tree : List ℕ) (Γ : Declarations) (at : Point) (before code stack : List ℕ) (i h : ℕ) (e : Expr) : Type 0 where
   pub rest : List Tree-node
   pub from-here : drop i tree ≡ nodes-words rest
   pub fits : Stacked text rest h
-  pub on : run C (nodes e) (way [] before) Γ ≡ run C rest (way (slots stack h) (take (size + i) code)) Γ
+  pub on : run (at .context) (nodes e) (way [] before) Γ ≡ run (at .context) rest (way (slots stack h) (take (at .size + i) code)) Γ
 
-pub going-start : {text tree : List ℕ} {e : Expr} → Expression text tree e → (Γ : Declarations) (C : ℕ) (code stack : List ℕ) (size : ℕ) → Typing-from text tree Γ C (take size code) code stack size 0 0 e
+pub going-start : {text tree : List ℕ} {e : Expr} → Expression text tree e → (Γ : Declarations) (at : Point) (code stack : List ℕ) → Typing-from text tree Γ at (take (at .size) code) code stack 0 0 e
 unfolding slots
-going-start {text} {tree} {e} x Γ C code stack size = record {
+going-start {text} {tree} {e} x Γ at code stack = record {
   rest = nodes e;
   from-here = x .is ∙ flat-nodes e;
   fits = rw (append-nil (nodes e)) at (fits-nodes (x .sound .in-text) 0 (omega (arith, x .sound .fits)) [] none);
-  on = rw (add-zero size);
+  on = rw (add-zero (at .size));
 }
 
 module _ {S A B : Type 0} (f : A → B) where
@@ -260,63 +239,74 @@ module _ {S A B : Type 0} (f : A → B) where
   after-ok (ok a s) h = (a, cc, cc)
   after-ok (refused c p) h = absurd (let z : _≡_ {A = ℕ} 0 1 = cc in omega arith)
 
-module _ {text tree : List ℕ} {Γ : Declarations} {C : ℕ} {before code stack : List ℕ} {size i h : ℕ} {e : Expr} (g : Typing-from text tree Γ C before code stack size i h e) where
+module _ {text tree : List ℕ} {Γ : Declarations} {at : Point} {before code stack : List ℕ} {i h : ℕ} {e : Expr} (g : Typing-from text tree Γ at before code stack i h e) where
   pub going-here : i < length tree → Node-here text tree i h (g .rest)
   going-here l = here (g .from-here) (g .fits) l
 
-  module _ {r : Typing} (x : Node-here text tree i h (g .rest)) (s : Types-node C (x .node) (slots stack h) Γ r) where
-    stepped : run C (nodes e) (way [] before) Γ ≡ after (entry-out r Γ) (λ y Δ. run C (x .others) (pushed (x .node) y (way (slots stack h) (take (size + i) code))) Δ)
+  module _ {r : Stage} {stack′ : List ℕ} (x : Node-here text tree i h (g .rest)) (s : Types-node at (x .node) (slots stack h) Γ (h - arity (x .node)) stack stack′ r) where
+    stepped : run (at .context) (nodes e) (way [] before) Γ
+        ≡ after (entry-out r (entry-at stack′ (h - arity (x .node))) Γ) (λ y Δ. run (at .context) (x .others) (pushed (x .node) y (way (slots stack h) (take (at .size + i) code))) Δ)
     unfolding run
     stepped = g .on ∙ rw (x .is) (rw (s .is))
 
-    pub going-refused : {c : Refusal} {p : ℕ} (code′ : List ℕ) (end : ℕ) → r ≡ Refused c p → Types-as before code′ end Γ r (typed C e Γ)
+    pub going-refused : {c : Refusal} {p : ℕ} (code′ stack″ : List ℕ) (end : ℕ) → r ≡ Refused c p → Types-as before code′ stack″ (at .count) end Γ r (typed (at .context) e Γ)
     unfolding entry-out typed-out
-    going-refused {c} {p} code′ end q = record {
+    going-refused {c} {p} code′ stack″ end q = record {
       becomes = constant 0;
-      is = rw q (sym (after-refused (λ a. entered a (way [] before)) (typed C e Γ) (sym (walked C e (way [] before) Γ) ∙ stepped ∙ rw q)));
-      words = λ k n w z. absurd (let y : _≡_ {A = ℕ} 0 1 = cc in omega arith);
+      is = rw q (sym (after-refused (λ a. entered a (way [] before)) (typed (at .context) e Γ) (sym (walked (at .context) e (way [] before) Γ) ∙ stepped ∙ rw q)));
+      on = λ n z w. absurd (let y : _≡_ {A = ℕ} 0 1 = cc in omega arith);
     }
 
-    pub going-next : {k : Kind} {n w t z b : ℕ} → r ≡ Typed k n w → t ≡ code-tag (x .node) → z ≡ code-place (x .node) → b ≡ h - arity (x .node) → size + i + 3 ≤ length code → b * 2 + 2 ≤ length stack
-        → Typing-from text tree Γ C before (sets code (size + i) (unit t w z)) (with-slot stack b (kind-number k) n) size (i + 3) (b + 1) e
-    unfolding entry-out
-    going-next {k} {n} {w} {t} {z} {b} q et ez eb room high = record {
+    pub going-next : {m y t w z : ℕ} → r ≡ Done m y → t ≡ code-tag (x .node) → w ≡ slot-word stack′ (m - 1) → z ≡ code-place (x .node) → at .size + i + 3 ≤ length code
+        → Typing-from text tree Γ at before (sets code (at .size + i) (unit t w z)) stack′ (i + 3) m e
+    unfolding entry-out slots
+    going-next {m} {y} {t} {w} {z} q et ew ez room = record {
       rest = x .others;
       from-here = x .then;
       fits = rw up (x .fits);
-      on = stepped ∙ rw (q, slots-drop stack (arity (x .node)) h (x .at .operands), ← eb, ← et, ← ez)
-          (rw (slots-push stack b (kind-number k) n high, kind-back k, written));
+      on = stepped ∙ rw (q, slots-drop stack (arity (x .node)) h (x .at .operands), ← put .under, ← et, ← ez, ← its-word)
+          (rw (written, top));
     }
       where
-        up : b + 1 ≡ h + 1 - arity (x .node)
-        up = omega (arith, x .at .operands)
+        put : Pushed at (h - arity (x .node)) stack stack′ m y
+        put = s .on m y q
 
-        three : size + (i + 3) ≡ size + i + 3
+        up : m ≡ h + 1 - arity (x .node)
+        up = omega (arith, put .height, x .at .operands)
+
+        its-word : w ≡ slot-word stack′ (h - arity (x .node))
+        its-word = let e : m - 1 ≡ h - arity (x .node) = omega (arith, put .height) in rw e at ew
+
+        top : m ≡ suc (h - arity (x .node))
+        top = omega (arith, put .height)
+
+        three : at .size + (i + 3) ≡ at .size + i + 3
         three = omega arith
 
-        written : take (size + (i + 3)) (sets code (size + i) (unit t w z)) ≡ take (size + i) code ++ unit t w z
-        written = rw (three, sets-eq (unit t w z) code (size + i) room)
-            (take-at (take (size + i) code ++ unit t w z) (drop (size + i + 3) code) (size + i + 3)
-            (length-append (take (size + i) code) (unit t w z) ∙ rw (length-take-le (size + i) code (omega arith))))
+        written : take (at .size + (i + 3)) (sets code (at .size + i) (unit t w z)) ≡ take (at .size + i) code ++ unit t w z
+        written = rw (three, sets-eq (unit t w z) code (at .size + i) room)
+            (take-at (take (at .size + i) code ++ unit t w z) (drop (at .size + i + 3) code) (at .size + i + 3)
+            (length-append (take (at .size + i) code) (unit t w z) ∙ rw (length-take-le (at .size + i) code (omega arith))))
 
-  ended : length tree ≤ i → run C (nodes e) (way [] before) Γ ≡ ok (way (slots stack h) (take (size + i) code)) Γ
+  ended : length tree ≤ i → run (at .context) (nodes e) (way [] before) Γ ≡ ok (way (slots stack h) (take (at .size + i) code)) Γ
   unfolding run nodes-words
   ended l = go (g .rest) (g .from-here) (g .on)
     where
-      go : (m : List Tree-node) → drop i tree ≡ nodes-words m → run C (nodes e) (way [] before) Γ ≡ run C m (way (slots stack h) (take (size + i) code)) Γ → run C (nodes e) (way [] before) Γ ≡ ok (way (slots stack h) (take (size + i) code)) Γ
+      go : (m : List Tree-node) → drop i tree ≡ nodes-words m → run (at .context) (nodes e) (way [] before) Γ ≡ run (at .context) m (way (slots stack h) (take (at .size + i) code)) Γ
+          → run (at .context) (nodes e) (way [] before) Γ ≡ ok (way (slots stack h) (take (at .size + i) code)) Γ
       go [] q o = o
       go (n ∷ m) q o = absurd (omega (arith, length-drop i tree, ap length q))
 
-  pub going-end : i ≡ length tree → {k : Kind} {n : ℕ} (w : ℕ) → k ≡ kind-of (slot-kind stack 0) → n ≡ slot-lanes stack 0 → Types-as before code (size + length tree) Γ (Typed k n w) (typed C e Γ)
+  pub going-end : i ≡ length tree → Types-as before code stack (at .count) (at .size + length tree) Γ (Done (at .count) (at .size + length tree)) (typed (at .context) e Γ)
   unfolding typed-out slots
-  going-end l {k} {n} w ek en =
-      let a = after-ok (λ a. entered a (way [] before)) (typed C e Γ) (sym (walked C e (way [] before) Γ) ∙ ended (omega arith)) in
+  going-end l =
+      let a = after-ok (λ a. entered a (way [] before)) (typed (at .context) e Γ) (sym (walked (at .context) e (way [] before) Γ) ∙ ended (omega arith)) in
       let s : ((a .0) .kind, (a .0) .lanes) ∷ [] ≡ slots stack h = ap (λ v. v .on) (a .2) in
       let top = only h s in
       record {
         becomes = (a .0) .code;
-        is = rw (ek, en, ← top .0, ← top .1) (sym (a .1));
-        words = λ _ _ _ _. ap (λ j. take (size + j) code) (sym l) ∙ sym (ap (λ v. v .words) (a .2));
+        is = rw (← top .0, ← top .1) (sym (a .1));
+        on = λ n z q. record { none-new = cc; ends = cc; words = ap (λ j. take (at .size + j) code) (sym l) ∙ sym (ap (λ v. v .words) (a .2)) };
       }
     where
       only : {b : Kind} {m : ℕ} (h : ℕ) → (b, m) ∷ [] ≡ slots stack h → (b ≡ kind-of (slot-kind stack 0)) × (m ≡ slot-lanes stack 0)
@@ -336,7 +326,7 @@ pub record Walking (text tree table : List ℕ) (at : Point) (code₀ stack₀ c
   pub stack-long : length stack ≡ length stack₀
   pub inside : i ≤ length tree
   pub high : h ≤ stack-limit
-  pub on : (e : Expr) → Expression text tree e → Typing-from text tree (entries text table (at .count)) (at .context) (take (at .size) code₀) code stack (at .size) i h e
+  pub on : (e : Expr) → Expression text tree e → Typing-from text tree (entries text table (at .count)) at (take (at .size) code₀) code stack i h e
 
 pub walking-start : {text tree table code stack : List ℕ} {at : Point} → Typing-room text tree table code stack at → There-is (Expression text tree) → Walking text tree table at code stack code stack 0 0
 walking-start r s = record {
@@ -346,25 +336,24 @@ walking-start r s = record {
   stack-long = refl;
   inside = omega arith;
   high = omega arith;
-  on = λ e x. going-start x _ _ _ _ _;
+  on = λ e x. going-start x _ _ _ _;
 }
 
--- What is left in the buffers for a node that takes a operands.
-pub record Node-room (tree code stack : List ℕ) (size i h a : ℕ) : Type 0 where
+-- What is known of the buffers once a node was typed and the stack is m high.
+pub record Node-room (tree code stack : List ℕ) (size i m : ℕ) : Type 0 where
   pub words : i + 3 ≤ length tree
   pub unit : size + i + 3 ≤ length code
-  pub operands : a ≤ h
-  pub slot : (h - a) * 2 + 2 ≤ length stack
-  pub high : h - a + 1 ≤ stack-limit
+  pub some : 1 ≤ m
+  pub slot : (m - 1) * 3 + 3 ≤ length stack
+  pub high : m ≤ stack-limit
 
 module _ {text tree table : List ℕ} {at : Point} {code₀ stack₀ code stack : List ℕ} {i h : ℕ} (g : Walking text tree table at code₀ stack₀ code stack i h) where
-  -- The stack has room for what waits.
-  pub walking-high : h * 2 ≤ length stack
-  walking-high = omega (arith, g .high, g .room .stack-room, g .stack-long, limit)
+  -- The stack has its room still.
+  pub walking-high : (h ≤ stack-limit) × (stack-limit * 3 ≤ length stack)
+  walking-high = (g .high, omega (arith, g .room .stack-room, g .stack-long))
 
-  pub walking-end : i ≡ length tree → {k : Kind} {n : ℕ} (w : ℕ) → k ≡ kind-of (slot-kind stack 0) → n ≡ slot-lanes stack 0
-      → Types-expression (typed (at .context)) at text tree table code₀ code (Typed k n w)
-  walking-end l w ek en e x = going-end (g .on e x) l w ek en
+  pub walking-end : i ≡ length tree → Types-expression (typed (at .context)) at text tree table code₀ code stack (Done (at .count) (at .size + length tree))
+  walking-end l e x = going-end (g .on e x) l
 
   module _ (l : i < length tree) where
     its : There-is (Node-at text tree i h)
@@ -373,39 +362,35 @@ module _ {text tree table : List ℕ} {at : Point} {code₀ stack₀ code stack 
     pub walking-node : There-is (Node-at text tree i h)
     walking-node = its
 
-    pub walking-place : at .size + i + 3 ≤ length code
-    walking-place = omega (arith, its .is .inside, g .room .code-room, g .code-long)
+    module _ {r : Stage} {stack′ : List ℕ} (s : Types-at at i h text tree table stack stack′ r) where
+      pub walking-refused : {c : Refusal} {p : ℕ} (code′ stack″ : List ℕ) → r ≡ Refused c p → Types-expression (typed (at .context)) at text tree table code₀ code′ stack″ r
+      walking-refused code′ stack″ q e x = let y = going-here (g .on e x) l in going-refused (g .on e x) y (s (y .node) (y .at)) code′ stack″ (at .size + length tree) q
 
-    pub walking-room : {a : ℕ} → Takes (getD tree i 0) a → Node-room tree code stack (at .size) i h a
-    walking-room {a} f =
-        let n = its in
-        let q = f (n .the) (n .is .is .tag-is) in
-        record {
-          words = n .is .inside;
-          unit = walking-place;
-          operands = omega (arith, n .is .operands);
-          slot = omega (arith, n .is .operands, n .is .fits, g .room .stack-room, g .stack-long, limit);
-          high = omega (arith, n .is .operands, n .is .fits);
-        }
+      module _ {m z : ℕ} (q : r ≡ Done m z) (same : length stack′ ≡ length stack) where
+        pub walking-room : Node-room tree code stack′ (at .size) i m
+        walking-room =
+            let n = its in
+            let up = s (n .the) (n .is) .on m z q .height in
+            record {
+              words = n .is .inside;
+              unit = omega (arith, n .is .inside, g .room .code-room, g .code-long);
+              some = omega arith;
+              slot = omega (arith, n .is .operands, n .is .fits, g .room .stack-room, g .stack-long, limit);
+              high = omega (arith, n .is .operands, n .is .fits);
+            }
 
-    module _ {r : Typing} (s : Types-at at i h text tree table stack r) where
-      pub walking-refused : {c : Refusal} {p : ℕ} (code′ : List ℕ) → r ≡ Refused c p → Types-expression (typed (at .context)) at text tree table code₀ code′ r
-      walking-refused code′ q e x = let y = going-here (g .on e x) l in going-refused (g .on e x) y (s (y .node) (y .at)) code′ (at .size + length tree) q
-
-      pub walking-next : {k : Kind} {n w t z a : ℕ} {code′ stack′ : List ℕ} → r ≡ Typed k n w → Codes-as (getD tree i 0) t → Codes-at tree i z → Takes (getD tree i 0) a
-          → code′ ≡ sets code (at .size + i) (unit t w z) → stack′ ≡ with-slot stack (h - a) (kind-number k) n
-          → Walking text tree table at code₀ stack₀ code′ stack′ (i + 3) (h - a + 1)
-      walking-next {k} {n} {w} {t} {z} {a} {code′} {stack′} q ft fz fa ec es =
-          let m = walking-room fa in
-          record {
-            room = g .room;
-            some = g .some;
-            code-long = rw ec (length-sets code (at .size + i) (unit t w z) ∙ g .code-long);
-            stack-long = rw es (length-sets stack ((h - a) * 2) (kind-number k ∷ n ∷ []) ∙ g .stack-long);
-            inside = m .words;
-            high = m .high;
-            on = λ e x.
-                let y = going-here (g .on e x) l in
-                let ea = fa (y .node) (y .at .is .tag-is) in
-                rw (ec, es) (going-next (g .on e x) y (s (y .node) (y .at)) q (ft (y .node) (y .at .is .tag-is)) (fz (y .node) (y .at .is .tag-is) (y .at .is .first-is)) (ap (λ b. h - b) ea) (m .unit) (m .slot));
-          }
+        pub walking-next : {t w v : ℕ} {code′ : List ℕ} → Codes-as (getD tree i 0) t → w ≡ slot-word stack′ (m - 1) → Codes-at tree i v → code′ ≡ sets code (at .size + i) (unit t w v)
+            → Walking text tree table at code₀ stack₀ code′ stack′ (i + 3) m
+        walking-next {t} {w} {v} {code′} ft ew fv ec =
+            let room = walking-room in
+            record {
+              room = g .room;
+              some = g .some;
+              code-long = rw ec (length-sets code (at .size + i) (unit t w v) ∙ g .code-long);
+              stack-long = same ∙ g .stack-long;
+              inside = room .words;
+              high = room .high;
+              on = λ e x.
+                  let y = going-here (g .on e x) l in
+                  rw ec (going-next (g .on e x) y (s (y .node) (y .at)) q (ft (y .node) (y .at .is .tag-is)) ew (fv (y .node) (y .at .is .tag-is) (y .at .is .first-is)) (room .unit));
+            }

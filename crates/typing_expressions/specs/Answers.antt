@@ -1,7 +1,7 @@
 -- What the answers of typing say: one definition turns each into the definition's outcome.
-use Prim.Native.Nat.{ℕ, _+_, _*_, _≤_}
+use Prim.Native.Nat.{ℕ, _+_, _-_, _*_, _≤_}
 use mathlib.Core.Path.{_≡_}
-use mathlib.Core.List.{List, [], _∷_, _++_}
+use mathlib.Core.List.{List, [], _++_}
 use lib.ListN.{length, getD, take}
 use Rattle.meaning.specs.declared.Kind.{Kind}
 use Rattle.meaning.specs.declared.Unary.{Unary}
@@ -14,14 +14,14 @@ use Rattle.meaning.specs.Typing as T
 use Rattle.layout.specs.Words.{flat}
 use Rattle.layout.specs.Code.{code-words}
 use Rattle.layout.specs.Sizes.{tree-limit}
-use Rattle.layout.specs.Stack.{slot-words}
-use Rattle.layout.specs.Table.{entries}
+use Rattle.layout.specs.Stack.{slot-words, slot-kind, slot-lanes}
+use Rattle.layout.specs.Table.{kind-of, entries}
+use Rattle.layout.specs.declared.Stage.{Stage}
+use Rattle.layout.specs.declared.Stage.the-variants.{Done, Refused}
 use Rattle.laws.specs.Sound.{Sound, stack-limit}
 use Rattle.typing_expressions.specs.declared.Point.{Point}
-use Rattle.typing_expressions.specs.declared.Typing.{Typing}
-use Rattle.typing_expressions.specs.declared.Typing.the-variants.{Typed, Refused}
 use Rattle.typing_expressions.specs.Rows.{Rows, Listed-length, spelled}
-use Rattle.typing_expressions.specs.Nodes.{Tree-node, a-name, a-unary, a-binary, Entry, Slot, step, slots, node-tag, node-first, code-tag, code-place, arity, Is-node, Node-at}
+use Rattle.typing_expressions.specs.Nodes.{Tree-node, a-name, a-unary, a-binary, Entry, entry-at, Slot, step, slots, node-tag, node-first, code-tag, code-place, arity, Is-node, Node-at}
 
 -- There is one of which P holds.
 pub record There-is {A : Type 0} (P : A → Type 0) : Type 0 where
@@ -42,38 +42,44 @@ pub record Typing-room (text tree table code stack : List ℕ) (at : Point) : Ty
   pub stack-room : stack-limit * slot-words ≤ length stack
 
 -- ---- a node
--- The answer for a node.
-unfoldable pub entry-out : Typing → Declarations → Out Declarations Entry
-entry-out (Typed k n w) Γ = ok (record { kind = k; lanes = n; word = w }) Γ
-entry-out (Refused c p) Γ = refused c p
+-- The answer for a node whose result is x.
+unfoldable pub entry-out : Stage → Entry → Declarations → Out Declarations Entry
+entry-out (Done n z) x Γ = ok x Γ
+entry-out (Refused c p) x Γ = refused c p
 
--- A node was typed as the definition says, over the operands l.
-pub record Types-node (C : ℕ) (n : Tree-node) (l : List Slot) (Γ : Declarations) (r : Typing) : Type 0 where
-  pub is : entry-out r Γ ≡ step C n l Γ
+-- With a result in slot b of the stack, those under it are as before, the stack is h high and the code still has the words of the point.
+pub record Pushed (at : Point) (b : ℕ) (before after : List ℕ) (h z : ℕ) : Type 0 where
+  pub height : h ≡ b + 1
+  pub size : z ≡ at .size
+  pub under : slots after b ≡ slots before b
+
+-- A node was typed at a point as the definition says, over the operands l, and its result stands in slot b.
+pub record Types-node (at : Point) (n : Tree-node) (l : List Slot) (Γ : Declarations) (b : ℕ) (before after : List ℕ) (r : Stage) : Type 0 where
+  pub is : entry-out r (entry-at after b) Γ ≡ step (at .context) n l Γ
+  pub on : (h z : ℕ) → r ≡ Done h z → Pushed at b before after h z
 
 -- The name from a place to an end was.
-abbrev pub Types-name : Point → ℕ → ℕ → List ℕ → List ℕ → Typing → Type 0
-Types-name at place end text table r = Types-node (at .context) (a-name place (spelled text place end)) [] (entries text table (at .count)) r
+abbrev pub Types-name : Point → ℕ → ℕ → List ℕ → List ℕ → ℕ → List ℕ → List ℕ → Stage → Type 0
+Types-name at place end text table b before after r = Types-node at (a-name place (spelled text place end)) [] (entries text table (at .count)) b before after r
 
 -- So was each node without operands whose words these are.
-abbrev pub Types-leaf : Point → ℕ → ℕ → ℕ → List ℕ → List ℕ → Typing → Type 0
-Types-leaf at tag a b text table r = (n : Tree-node) (l : List Slot) → Is-node text tag a b n → Types-node (at .context) n l (entries text table (at .count)) r
+abbrev pub Types-leaf : Point → ℕ → ℕ → ℕ → List ℕ → List ℕ → ℕ → List ℕ → List ℕ → Stage → Type 0
+Types-leaf at tag x y text table b before after r =
+    (n : Tree-node) (l : List Slot) → Is-node text tag x y n → Types-node at n l (entries text table (at .count)) b before after r
 
--- An operator over operands of these kinds and lengths, in any context, over any others.
-abbrev pub Types-unary : Unary → ℕ → Kind → ℕ → Typing → Type 0
-Types-unary o place k n r = (C : ℕ) (l : List Slot) (Γ : Declarations) → Types-node C (a-unary place o) ((k, n) ∷ l) Γ r
+-- An operator over the operands from slot b on, whatever is declared.
+abbrev pub Types-unary : Point → Unary → ℕ → ℕ → List ℕ → List ℕ → Stage → Type 0
+Types-unary at o place b before after r = (Γ : Declarations) → Types-node at (a-unary place o) (slots before (b + 1)) Γ b before after r
 
-abbrev pub Types-binary : Binary → ℕ → Kind → ℕ → Kind → ℕ → Typing → Type 0
-Types-binary o place a n b m r = (C : ℕ) (l : List Slot) (Γ : Declarations) → Types-node C (a-binary place o) ((b, m) ∷ (a, n) ∷ l) Γ r
+abbrev pub Types-binary : Point → Binary → ℕ → ℕ → List ℕ → List ℕ → Stage → Type 0
+Types-binary at o place b before after r = (Γ : Declarations) → Types-node at (a-binary place o) (slots before (b + 2)) Γ b before after r
 
--- The node at word i of a tree, over a stack of a height.
-abbrev pub Types-at : Point → ℕ → ℕ → List ℕ → List ℕ → List ℕ → List ℕ → Typing → Type 0
-Types-at at i height text tree table stack r = (n : Tree-node) → Node-at text tree i height n → Types-node (at .context) n (slots stack height) (entries text table (at .count)) r
+-- The node at word i of a tree, over a stack of height h, from which it takes its operands.
+abbrev pub Types-at : Point → ℕ → ℕ → List ℕ → List ℕ → List ℕ → List ℕ → List ℕ → Stage → Type 0
+Types-at at i h text tree table before after r =
+    (n : Tree-node) → Node-at text tree i h n → Types-node at n (slots before h) (entries text table (at .count)) (h - arity n) before after r
 
--- How many operands the node of a tag takes, its tag in the code, and its third word there.
-abbrev pub Takes : ℕ → ℕ → Type 0
-Takes tag r = (n : Tree-node) → node-tag n ≡ tag → r ≡ arity n
-
+-- The tag in the code of the node of a tag, and its third word there.
 abbrev pub Codes-as : ℕ → ℕ → Type 0
 Codes-as tag r = (n : Tree-node) → node-tag n ≡ tag → r ≡ code-tag n
 
@@ -81,30 +87,42 @@ abbrev pub Codes-at : List ℕ → ℕ → ℕ → Type 0
 Codes-at tree i r = (n : Tree-node) → node-tag n ≡ getD tree i 0 → node-first n ≡ getD tree (i + 1) 0 → r ≡ code-place n
 
 -- ---- an expression
--- The answer for an expression that becomes x.
-unfoldable pub typed-out : Typing → Code → Declarations → Out Declarations T.Typed
-typed-out (Typed k n w) x Γ = ok (record { code = x; kind = k; lanes = n }) Γ
-typed-out (Refused c p) x Γ = refused c p
+-- The answer for an expression that becomes x: its kind and its length stand in the stack's first slot.
+unfoldable pub typed-out : Stage → Code → List ℕ → Declarations → Out Declarations T.Typed
+typed-out (Done n z) x stack Γ = ok (record { code = x; kind = kind-of (slot-kind stack 0); lanes = slot-lanes stack 0 }) Γ
+typed-out (Refused c p) x stack Γ = refused c p
 
--- An expression was typed with an outcome, and its code words, as many as its tree has, stand behind those before.
-pub record Types-as (before code : List ℕ) (end : ℕ) (Γ : Declarations) (r : Typing) (out : Out Declarations T.Typed) : Type 0 where
+-- There are as many declarations as before, and z words of code: those of x behind those before, as many as its tree has.
+pub record Typed-to (before code : List ℕ) (count end n z : ℕ) (x : Code) : Type 0 where
+  pub none-new : n ≡ count
+  pub ends : z ≡ end
+  pub words : take end code ≡ before ++ code-words x
+
+-- An expression was typed with an outcome, and its code written.
+pub record Types-as (before code stack : List ℕ) (count end : ℕ) (Γ : Declarations) (r : Stage) (out : Out Declarations T.Typed) : Type 0 where
   pub becomes : Code
-  pub is : typed-out r becomes Γ ≡ out
-  pub words : (k : Kind) (n w : ℕ) → r ≡ Typed k n w → take end code ≡ before ++ code-words becomes
+  pub is : typed-out r becomes stack Γ ≡ out
+  pub on : (n z : ℕ) → r ≡ Done n z → Typed-to before code count end n z becomes
 
 -- The expression whose words are the tree was typed at a point as a definition says.
-abbrev pub Types-expression : (Expr → T.Types T.Typed) → Point → List ℕ → List ℕ → List ℕ → List ℕ → List ℕ → Typing → Type 0
-Types-expression definition at text tree table before after r =
+abbrev pub Types-expression : (Expr → T.Types T.Typed) → Point → List ℕ → List ℕ → List ℕ → List ℕ → List ℕ → List ℕ → Stage → Type 0
+Types-expression definition at text tree table before after stack r =
     (e : Expr) → Expression text tree e
-    → Types-as (take (at .size) before) after (at .size + length tree) (entries text table (at .count)) r (definition e (entries text table (at .count)))
+    → Types-as (take (at .size) before) after stack (at .count) (at .size + length tree) (entries text table (at .count)) r (definition e (entries text table (at .count)))
 
 -- ---- a declaration
--- The answer for a declaration: the new one's number.
-unfoldable pub number-out : Typing → Declarations → Out Declarations ℕ
-number-out (Typed k n w) Γ = ok w Γ
-number-out (Refused c p) Γ = refused c p
+-- The answer for a declaration whose number is i.
+unfoldable pub number-out : Stage → ℕ → Declarations → Out Declarations ℕ
+number-out (Done n z) i Γ = ok i Γ
+number-out (Refused c p) i Γ = refused c p
 
--- The name from a place to an end was declared as the definition says, with a kind k and n lanes, and the table has one more.
-pub record Declares-name (at : Point) (k : Kind) (n place end : ℕ) (text before after : List ℕ) (r : Typing) : Type 0 where
-  pub is : number-out r (entries text after (at .count + 1)) ≡ T.declare-name (at .context) k n place (spelled text place end) (entries text before (at .count))
-  pub rows : (k : Kind) (n w : ℕ) → r ≡ Typed k n w → Rows text after (at .count + 1)
+-- The table holds one declaration more than at a point, and the code as many words.
+pub record Declared-to (at : Point) (text table : List ℕ) (n z : ℕ) : Type 0 where
+  pub one-more : n ≡ at .count + 1
+  pub size : z ≡ at .size
+  pub rows : Rows text table n
+
+-- The name from a place to an end was declared as the definition says, with a kind k and n lanes: it is the next one.
+pub record Declares-name (at : Point) (k : Kind) (n place end : ℕ) (text before after : List ℕ) (r : Stage) : Type 0 where
+  pub is : number-out r (at .count) (entries text after (at .count + 1)) ≡ T.declare-name (at .context) k n place (spelled text place end) (entries text before (at .count))
+  pub on : (m z : ℕ) → r ≡ Done m z → Declared-to at text after m z

@@ -15,7 +15,7 @@ use Rattle.meaning.specs.Tree.{Name, kind-number, _one-of_, Gives, a-bool, its-
 use Rattle.meaning.specs.Memory.{bit}
 use Rattle.meaning.specs.Typing.{Types, accepts, gives-kind, match, joined, variable-named}
 use Rattle.layout.specs.Words.{unit-words, binary-tag, unary-tag, boolean-tag}
-use Rattle.layout.specs.Stack.{slot-kind, slot-lanes}
+use Rattle.layout.specs.Stack.{slot-kind, slot-lanes, slot-word}
 use Rattle.layout.specs.Table.{kind-of}
 use Rattle.laws.specs.Sound.{Spelled, stack-limit}
 
@@ -131,6 +131,10 @@ step C (a-binary p o) (b ∷ a ∷ l) = do
 unfoldable pub slots : List ℕ → ℕ → List Slot
 slots stack zero = []
 slots stack (suc h) = (kind-of (slot-kind stack h), slot-lanes stack h) ∷ slots stack h
+
+-- What stands in slot i of it.
+abbrev pub entry-at : List ℕ → ℕ → Entry
+entry-at stack i = record { kind = kind-of (slot-kind stack i); lanes = slot-lanes stack i; word = slot-word stack i }
 
 -- Three words are those of a node, whose name stands in the text.
 pub record Is-node (text : List ℕ) (tag a b : ℕ) (n : Tree-node) : Type 0 where

@@ -14,9 +14,10 @@ use Rattle.meaning.specs.Tree.{Name, same-kind, _one-of_, table as signs, unary
 use Rattle.meaning.specs.Memory.{Declared, Declarations, declared}
 use Rattle.meaning.specs.Typing as T
 use Rattle.meaning.specs.Typing.{typed, typed-condition, storable, find, fits, joined, variable-named}
+use Rattle.layout.specs.Stack.{slot-lanes}
 use Rattle.layout.specs.Table.{entry, entries}
-use Rattle.typing_expressions.specs.declared.Typing.{Typing}
-use Rattle.typing_expressions.specs.declared.Typing.the-variants as typing
+use Rattle.layout.specs.declared.Stage.{Stage}
+use Rattle.layout.specs.declared.Stage.the-variants.{Done}
 use Rattle.typing_expressions.specs.Rows.{Listed-length, Rows}
 use Rattle.typing_expressions.specs.Answers.{Types-as}
 use Rattle.typing_expressions.proofs.Names.{length-entries, entries-at}
@@ -97,9 +98,9 @@ module _ {C count : ℕ} {text table : List ℕ} (c : Listed-length C) (r : Rows
       stored a g false y z = refusal tt
 
   -- The length of an answer.
-  module _ {before code : List ℕ} {end : ℕ} {a : Typing} {k : Kind} {n w : ℕ} (e : Expr) where
-    pub condition-listed : (p : ℕ) → Types-as before code end (entries text table count) a (typed-condition C p e (entries text table count)) → a ≡ typing.Typed k n w → Listed-length n
+  module _ {before code stack : List ℕ} {m end : ℕ} {a : Stage} {n z : ℕ} (e : Expr) where
+    pub condition-listed : (p : ℕ) → Types-as before code stack m end (entries text table count) a (typed-condition C p e (entries text table count)) → a ≡ Done n z → Listed-length (slot-lanes stack 0)
     condition-listed p s q = said (good-condition p e) (shows-ok s q) .1
 
-    pub valued-listed : (t : Target) → (eqb (t .lanes) 0 ≡ false → Listed-length (t .lanes)) → Types-as before code end (entries text table count) a (valued C t e (entries text table count)) → a ≡ typing.Typed k n w → Listed-length n
+    pub valued-listed : (t : Target) → (eqb (t .lanes) 0 ≡ false → Listed-length (t .lanes)) → Types-as before code stack m end (entries text table count) a (valued C t e (entries text table count)) → a ≡ Done n z → Listed-length (slot-lanes stack 0)
     valued-listed t l s q = said (good-valued t e l) (shows-ok s q) .1

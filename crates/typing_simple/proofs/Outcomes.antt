@@ -1,29 +1,31 @@
 -- What an answer says of the outcome it stands for, and what typing makes of outcomes one after another.
-use Prim.Native.Nat.{ℕ, _<_}
+use Prim.Native.Nat.{ℕ, _≤_, _<_}
 use native.Mathlib.Omega.{arith}
 use mathlib.Core.Path.{_≡_, refl, sym, ap, _∙_}
 use mathlib.Core.Bool.{Bool, true, false, not, _||_, true≢false}
 use mathlib.Core.List.{List, []}
 use mathlib.Core.Option.{Option, none, some}
 use lib.Dec.{eqb}
+use lib.ListN.{length}
 use borrow.Author.Tests.{ne-eqb}
 use Rattle.meaning.specs.declared.Kind.{Kind}
 use Rattle.meaning.specs.declared.Kind.the-variants.{Bool as bool}
 use Rattle.meaning.specs.declared.Refusal.{Refusal}
 use Rattle.meaning.specs.declared.Refusal.the-variants.{WrongKind, WrongLength, LengthOneTarget, LengthNotListed}
 use Rattle.meaning.specs.Codes.{Out, ok, refused, after}
-use Rattle.meaning.specs.Tree.{Name, same-kind, Expr, Block, assign}
+use Rattle.meaning.specs.Tree.{Name, kind-number, same-kind, Expr, Block, assign}
 use Rattle.meaning.specs.Program.{constant, Program, nothing, step, put}
 use Rattle.meaning.specs.Memory.{Declared, Declarations}
 use Rattle.meaning.specs.Typing as T
 use Rattle.meaning.specs.Typing.{typed, typed-condition, storable, variable-named, declare-name, typed-declaration, typed-statement, good-block}
 use Rattle.layout.specs.Words.{block-length, block-place}
-use Rattle.layout.specs.Table.{entries}
-use Rattle.typing_expressions.specs.declared.Typing.{Typing}
-use Rattle.typing_expressions.specs.declared.Typing.the-variants as typing
+use Rattle.layout.specs.Stack.{slot-kind, slot-lanes, slot-word, with-slot}
+use Rattle.layout.specs.Table.{kind-of, entries}
+use Rattle.typing_expressions.specs.declared.Point.{Point}
 use Rattle.typing_expressions.specs.Rows.{Closes}
-use Rattle.typing_expressions.specs.Nodes.{Entry, a-name, step as node-step}
+use Rattle.typing_expressions.specs.Nodes.{Entry, entry-at, a-name, step as node-step}
 use Rattle.typing_expressions.specs.Answers.{entry-out, Types-node, typed-out, Types-as}
+use Rattle.typing_expressions.proofs.Slots.{entry-put}
 use Rattle.typing_expressions.proofs.Walk.{after-after, after-same, after-refused, after-ok}
 use Rattle.typing_simple.specs.declared.Target.{Target}
 use Rattle.layout.specs.declared.Stage.{Stage}
@@ -33,17 +35,17 @@ use Rattle.typing_simple.specs.Answers.{length-or, valued, walked-out, W
 use Rattle.typing_simple.proofs.Shapes.{length-good}
 
 -- ---- answers
-module _ {before code : List ℕ} {end : ℕ} {Γ : Declarations} {a : Typing} {o : Out Declarations T.Typed} where
-  pub no-shows : {c : Refusal} {p : ℕ} → a ≡ typing.Refused c p → o ≡ refused c p → Types-as before code end Γ a o
+module _ {before code stack : List ℕ} {count end : ℕ} {Γ : Declarations} {a : Stage} {o : Out Declarations T.Typed} where
+  pub no-shows : {c : Refusal} {p : ℕ} → a ≡ Refused c p → o ≡ refused c p → Types-as before code stack count end Γ a o
   unfolding typed-out
-  no-shows q e = record { becomes = constant 0; is = rw (q, e); words = λ k n w z. absurd (let y : _≡_ {A = ℕ} 0 1 = cc in omega arith) }
+  no-shows q e = record { becomes = constant 0; is = rw (q, e); on = λ n z y. absurd (let x : _≡_ {A = ℕ} 0 1 = cc in omega arith) }
 
-  module _ (s : Types-as before code end Γ a o) where
-    pub shows-no : {c : Refusal} {p : ℕ} → a ≡ typing.Refused c p → o ≡ refused c p
+  module _ (s : Types-as before code stack count end Γ a o) where
+    pub shows-no : {c : Refusal} {p : ℕ} → a ≡ Refused c p → o ≡ refused c p
     unfolding typed-out
     shows-no q = sym (s .is) ∙ rw q
 
-    pub shows-ok : {k : Kind} {n w : ℕ} → a ≡ typing.Typed k n w → o ≡ ok (record { code = s .becomes; kind = k; lanes = n }) Γ
+    pub shows-ok : {n z : ℕ} → a ≡ Done n z → o ≡ ok (record { code = s .becomes; kind = kind-of (slot-kind stack 0); lanes = slot-lanes stack 0 }) Γ
     unfolding typed-out
     shows-ok q = sym (s .is) ∙ rw q
 
@@ -73,44 +75,51 @@ pub closes-at : {one : Stage} {from n z m y : ℕ} {T U : List ℕ} → one ≡ 
 closes-at {n = n} {m = m} p q c = let i : n ≡ m = cc in rw (← i) c
 
 -- ---- a condition
-module _ {before code : List ℕ} {end : ℕ} {Γ : Declarations} {a : Typing} (C p : ℕ) (e : Expr) (s : Types-as before code end Γ a (typed C e Γ)) where
-  pub condition-no : {c : Refusal} {q : ℕ} → a ≡ typing.Refused c q → Types-as before code end Γ a (typed-condition C p e Γ)
+module _ {before code stack : List ℕ} {count end : ℕ} {Γ : Declarations} {a : Stage} (C p : ℕ) (e : Expr) (s : Types-as before code stack count end Γ a (typed C e Γ)) where
+  pub condition-no : {c : Refusal} {q : ℕ} → a ≡ Refused c q → Types-as before code stack count end Γ a (typed-condition C p e Γ)
   unfolding typed-condition
   condition-no h = no-shows h (rw (shows-no s h))
 
-  module _ {k : Kind} {n w : ℕ} {b : Bool} (h : a ≡ typing.Typed k n w) (eb : b ≡ same-kind k bool) where
-    pub condition-8 : b ≡ false → Types-as before code end Γ (typing.Refused WrongKind p) (typed-condition C p e Γ)
+  module _ {n z : ℕ} {k : Kind} {b : Bool} (h : a ≡ Done n z) (ek : k ≡ kind-of (slot-kind stack 0)) (eb : b ≡ same-kind k bool) where
+    pub condition-8 : b ≡ false → Types-as before code stack count end Γ (Refused WrongKind p) (typed-condition C p e Γ)
     unfolding typed-condition
-    condition-8 f = no-shows refl (rw (shows-ok s h) (rw (← eb, f)))
+    condition-8 f = no-shows refl (rw (shows-ok s h) (rw (← ek, ← eb, f)))
 
-    pub condition-ok : b ≡ true → Types-as before code end Γ (typing.Typed k n w) (typed-condition C p e Γ)
+    pub condition-ok : b ≡ true → Types-as before code stack count end Γ (Done n z) (typed-condition C p e Γ)
     unfolding typed-condition typed-out
-    condition-ok f = record { becomes = s .becomes; is = rw (shows-ok s h) (rw (← eb, f)); words = λ _ _ _ _. s .words k n w h }
+    condition-ok f = record { becomes = s .becomes; is = rw (shows-ok s h) (rw (← ek, ← eb, f)); on = λ m y q. s .on m y (h ∙ q) }
 
 -- ---- a value for a target
-module _ {before code : List ℕ} {end : ℕ} {Γ : Declarations} {a : Typing} (C : ℕ) (t : Target) (e : Expr) (s : Types-as before code end Γ a (typed C e Γ)) where
-  pub value-no : {c : Refusal} {q : ℕ} → a ≡ typing.Refused c q → Types-as before code end Γ a (valued C t e Γ)
+module _ {before code stack : List ℕ} {count end : ℕ} {Γ : Declarations} {a : Stage} (C : ℕ) (t : Target) (e : Expr) (s : Types-as before code stack count end Γ a (typed C e Γ)) where
+  pub value-no : {c : Refusal} {q : ℕ} → a ≡ Refused c q → Types-as before code stack count end Γ a (valued C t e Γ)
   unfolding valued
   value-no h = no-shows h (rw (shows-no s h))
 
-  module _ {k : Kind} {n w l : ℕ} {b : Bool} (h : a ≡ typing.Typed k n w) (el : l ≡ length-or (t .lanes) n) (eb : b ≡ same-kind k (t .kind)) where
-    pub value-8 : b ≡ false → Types-as before code end Γ (typing.Refused WrongKind (t .place)) (valued C t e Γ)
+  module _ {m z n l : ℕ} {k : Kind} {b : Bool} (h : a ≡ Done m z) (ek : k ≡ kind-of (slot-kind stack 0)) (en : n ≡ slot-lanes stack 0) (el : l ≡ length-or (t .lanes) n) (eb : b ≡ same-kind k (t .kind)) where
+    pub value-8 : b ≡ false → Types-as before code stack count end Γ (Refused WrongKind (t .place)) (valued C t e Γ)
     unfolding valued storable
-    value-8 f = no-shows refl (rw (shows-ok s h) (rw (← eb, f)))
+    value-8 f = no-shows refl (rw (shows-ok s h) (rw (← ek, ← eb, f)))
 
     module _ (f : b ≡ true) where
-      pub value-9 : (eqb n 1 || eqb n l) ≡ false → Types-as before code end Γ (typing.Refused WrongLength (t .place)) (valued C t e Γ)
+      pub value-9 : (eqb n 1 || eqb n l) ≡ false → Types-as before code stack count end Γ (Refused WrongLength (t .place)) (valued C t e Γ)
       unfolding valued storable
-      value-9 g = no-shows refl (rw (shows-ok s h) (rw (← el, ← eb, f, g)))
+      value-9 g = no-shows refl (rw (shows-ok s h) (rw (← ek, ← en, ← el, ← eb, f, g)))
 
       module _ (g : (eqb n 1 || eqb n l) ≡ true) where
-        pub value-10 : (eqb C 1 || not (eqb l 1)) ≡ false → Types-as before code end Γ (typing.Refused LengthOneTarget (t .place)) (valued C t e Γ)
+        pub value-10 : (eqb C 1 || not (eqb l 1)) ≡ false → Types-as before code stack count end Γ (Refused LengthOneTarget (t .place)) (valued C t e Γ)
         unfolding valued storable
-        value-10 i = no-shows refl (rw (shows-ok s h) (rw (← el, ← eb, f, g, i)))
+        value-10 i = no-shows refl (rw (shows-ok s h) (rw (← ek, ← en, ← el, ← eb, f, g, i)))
 
-        pub value-ok : (eqb C 1 || not (eqb l 1)) ≡ true → (u : ℕ) → Types-as before code end Γ (typing.Typed (t .kind) l u) (valued C t e Γ)
+        pub value-ok : (eqb C 1 || not (eqb l 1)) ≡ true → {stack′ : List ℕ} (w : ℕ) → stack′ ≡ with-slot stack 0 (kind-number (t .kind)) l w → 3 ≤ length stack
+            → Types-as before code stack′ count end Γ (Done m z) (valued C t e Γ)
         unfolding valued storable typed-out
-        value-ok i u = record { becomes = s .becomes; is = rw (shows-ok s h) (rw (← el, ← eb, f, g, i)); words = λ _ _ _ _. s .words k n w h }
+        value-ok i {stack′} w es room = record { becomes = s .becomes; is = rw (put-kind, put-lanes) (rw (shows-ok s h) (rw (← ek, ← en, ← el, ← eb, f, g, i))); on = λ j y q. s .on j y (h ∙ q) }
+          where
+            put-kind : kind-of (slot-kind stack′ 0) ≡ t .kind
+            put-kind = rw es (ap (λ x. x .kind) (entry-put stack 0 (t .kind) l w room))
+
+            put-lanes : slot-lanes stack′ 0 ≡ l
+            put-lanes = rw es (ap (λ x. x .lanes) (entry-put stack 0 (t .kind) l w room))
 
 -- ---- a name
 abbrev as-entry : ℕ × Declared → Entry
@@ -123,25 +132,25 @@ pub record Found-it (C p : ℕ) (x : Name) (Γ : Declarations) (k : Kind) (n w :
   pub kind-is : found .kind ≡ k
   pub lanes-is : found .lanes ≡ n
 
-module _ {C p : ℕ} {x : Name} {Γ : Declarations} {t : Typing} (s : Types-node C (a-name p x) [] Γ t) where
-  shown : after (variable-named C p x Γ) (λ i Δ. ok (as-entry i) Δ) ≡ entry-out t Γ
+module _ {at : Point} {p b : ℕ} {x : Name} {Γ : Declarations} {before later : List ℕ} {t : Stage} (s : Types-node at (a-name p x) [] Γ b before later t) where
+  shown : after (variable-named (at .context) p x Γ) (λ i Δ. ok (as-entry i) Δ) ≡ entry-out t (entry-at later b) Γ
   unfolding node-step
   shown = sym (s .is)
 
-  pub name-no : {c : Refusal} {q : ℕ} → t ≡ typing.Refused c q → variable-named C p x Γ ≡ refused c q
+  pub name-no : {c : Refusal} {q : ℕ} → t ≡ Refused c q → variable-named (at .context) p x Γ ≡ refused c q
   unfolding entry-out
-  name-no h = after-refused as-entry (variable-named C p x Γ) (shown ∙ rw h)
+  name-no h = after-refused as-entry (variable-named (at .context) p x Γ) (shown ∙ rw h)
 
-  pub name-ok : {k : Kind} {n w : ℕ} → t ≡ typing.Typed k n w → Found-it C p x Γ k n w
+  pub name-ok : {m z : ℕ} {k : Kind} {n w : ℕ} → t ≡ Done m z → k ≡ kind-of (slot-kind later b) → n ≡ slot-lanes later b → w ≡ slot-word later b → Found-it (at .context) p x Γ k n w
   unfolding entry-out
-  name-ok {k} {n} {w} h =
-      let e : after (variable-named C p x Γ) (λ i Δ. ok (as-entry i) Δ) ≡ ok (record { kind = k; lanes = n; word = w }) Γ = shown ∙ rw h in
-      let a = after-ok as-entry (variable-named C p x Γ) e in
+  name-ok {k = k} {n = n} {w = w} h ek en ew =
+      let e : after (variable-named (at .context) p x Γ) (λ i Δ. ok (as-entry i) Δ) ≡ ok (entry-at later b) Γ = shown ∙ rw h in
+      let a = after-ok as-entry (variable-named (at .context) p x Γ) e in
       record {
         found = (a .0) .1;
-        is = a .1 ∙ ap (λ i. ok (i, (a .0) .1) Γ) (ap (λ y. y .word) (a .2));
-        kind-is = ap (λ y. y .kind) (a .2);
-        lanes-is = ap (λ y. y .lanes) (a .2);
+        is = a .1 ∙ ap (λ i. ok (i, (a .0) .1) Γ) (ap (λ y. y .word) (a .2) ∙ sym ew);
+        kind-is = ap (λ y. y .kind) (a .2) ∙ sym ek;
+        lanes-is = ap (λ y. y .lanes) (a .2) ∙ sym en;
       }
 
 -- ---- statements, from what their parts become

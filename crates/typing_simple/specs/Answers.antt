@@ -4,24 +4,26 @@ use mathlib.Core.Path.{_≡_}
 use mathlib.Core.Bool.{Bool}
 use mathlib.Core.List.{List, _++_}
 use lib.Dec.{eqb}
-use lib.ListN.{length, take}
+use lib.ListN.{length, getD, take}
 use Rattle.meaning.specs.declared.Kind.{Kind}
 use Rattle.meaning.specs.Codes.{Out, ok, refused, _>>=_, _>>_, give, if_then_else_, declaration-limit}
 use Rattle.meaning.specs.Tree.{Expr, Block, Stmt}
 use Rattle.meaning.specs.Program.{Program}
 use Rattle.meaning.specs.Memory.{Declarations}
-use Rattle.meaning.specs.Typing.{Types, Typed, typed, storable, typed-statement}
+use Rattle.meaning.specs.Typing.{Types, Typed, typed, storable, typed-condition, typed-statement}
 use Rattle.layout.specs.Words.{unit-words, kind-tag, block-length, block-place}
+use Rattle.layout.specs.Heads.{place-word, long-head, condition-word}
 use Rattle.layout.specs.Code.{program-words}
 use Rattle.layout.specs.Sizes.{table-room, tree-limit}
 use Rattle.layout.specs.Table.{entries}
 use Rattle.laws.specs.Sound.{Placed}
 use Rattle.typing_expressions.specs.declared.Point.{Point}
 use Rattle.typing_expressions.specs.Rows.{Rows, Closes}
+use Rattle.typing_expressions.specs.Answers.{Types-as}
 use Rattle.typing_simple.specs.declared.Target.{Target}
 use Rattle.layout.specs.declared.Stage.{Stage}
 use Rattle.layout.specs.declared.Stage.the-variants.{Done, Refused}
-use Rattle.typing_simple.specs.Shapes.{listed-block, Empty}
+use Rattle.typing_simple.specs.Shapes.{listed-block, Empty, Condition}
 
 -- ---- the parts of a statement
 -- The target's length m, or the value's n where m is 0, for a declaration without `block`.
@@ -42,6 +44,13 @@ Names-kind tag r = (k : Kind) → kind-tag k ≡ tag → r ≡ k
 -- The `block[N]` with this N and its place has a good N.
 abbrev pub Blocks-well : ℕ → ℕ → Bool → Type 0
 Blocks-well n place r = (text : List ℕ) (b : Block) → Placed text b → block-length b ≡ n → block-place b ≡ place → r ≡ listed-block b
+
+-- The condition of an `if` or a `while` whose words are the tree was typed at a point as the definition says, behind the room for its head.
+abbrev pub Types-condition : Point → List ℕ → List ℕ → List ℕ → List ℕ → List ℕ → List ℕ → Stage → Type 0
+Types-condition at text tree table before after stack r =
+    (e : Expr) → Condition text tree e
+    → Types-as (take (at .size + long-head) before) after stack (at .count) (at .size + (long-head + getD tree condition-word 0)) (entries text table (at .count)) r
+    (typed-condition (at .context) (getD tree place-word 0) e (entries text table (at .count)))
 
 -- ---- a statement
 -- The answer for a statement that becomes P.

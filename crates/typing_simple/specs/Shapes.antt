@@ -9,7 +9,7 @@ use Rattle.meaning.specs.declared.Kind.{Kind}
 use Rattle.meaning.specs.Codes.{_among_, lengths}
 use Rattle.meaning.specs.Tree.{Name, Expr, Block, Stmt, empty, declare, assign}
 use Rattle.layout.specs.Words.{kind-tag, block-length, block-place, value-place, value-words}
-use Rattle.layout.specs.Heads.{tag-word, place-word, short-head, long-head, declaration-head, length-word, length-place-word, name-word, name-end-word, value-word, target-end-word, equals-word}
+use Rattle.layout.specs.Heads.{tag-word, place-word, short-head, long-head, declaration-head, length-word, length-place-word, name-word, name-end-word, value-word, target-end-word, equals-word, condition-word}
 use Rattle.laws.specs.Sound.{Spelled, Placed, Valued}
 use Rattle.typing_expressions.specs.Answers.{Expression}
 
@@ -70,3 +70,8 @@ pub record Assignment (text words : List ℕ) (s : Stmt) : Type 0 where
   pub ends : getD words place-word 0 + length name ≡ getD words target-end-word 0
   pub spelled : Spelled text (getD words place-word 0) name
   pub right : Expression text (part words long-head (length words)) value
+
+-- The statement is an `if` or a `while`, and e its condition.
+pub record Condition (text words : List ℕ) (e : Expr) : Type 0 where
+  pub long : long-head + getD words condition-word 0 ≤ length words
+  pub is : Expression text (part words long-head (long-head + getD words condition-word 0)) e

@@ -3,12 +3,12 @@ use layout::Stage;
 use layout::UNIT;
 use layout::head;
 use layout::put_unit;
+use layout::slot;
 use layout::tag;
 use layout::word;
 use meaning::Kind;
 use meaning::Refusal;
 use typing_expressions::Point;
-use typing_expressions::Typing;
 use typing_expressions::declare;
 use typing_expressions::expression;
 use typing_expressions::named;
@@ -24,8 +24,8 @@ ghost use Rattle.layout.specs.Code.{program-words};
 ghost use Rattle.layout.specs.Heads.{long-head};
 ghost use Rattle.layout.specs.Sizes.{tree-limit};
 ghost use Rattle.typing_expressions.specs.Answers.{There-is, Expression, Typing-room, Types-expression};
-ghost use Rattle.typing_simple.specs.Shapes.{part, Empty, Declaration, Plain-declaration, Initial-declaration, Assignment};
-ghost use Rattle.typing_simple.specs.Answers.{length-or, valued, Names-kind, Blocks-well, Plain-room, Types-empty, Scope-open, Scope-closed, Types-statement};
+ghost use Rattle.typing_simple.specs.Shapes.{part, Empty, Declaration, Plain-declaration, Initial-declaration, Assignment, Condition};
+ghost use Rattle.typing_simple.specs.Answers.{length-or, valued, Names-kind, Blocks-well, Types-condition, Plain-room, Types-empty, Scope-open, Scope-closed, Types-statement};
 
 // What an `=` writes to: the place of the `=`, a kind, and a length, or 0 for any.
 struct Target {
@@ -58,7 +58,7 @@ fn length_or(m: u32, n: u32) -> u32
     if m == 0 { n } else { m }
 }
 
-// Types the right side of an `=`: its expression, then 8, 9, 10.
+// Types the right side of an `=`: its expression, then 8, 9, 10. The target's kind and the length stand in slot 0.
 fn value(
     text: &[u8],
     tree: &[u32],
@@ -67,70 +67,73 @@ fn value(
     target: Target,
     code: &mut [u32],
     stack: &mut [u32],
-) -> Typing
+) -> Stage
     requires { ⌜ Typing-room (now text) (now tree) (now table) (now code) (now stack) at ⌝ }
     requires { ⌜ There-is (Expression (now text) (now tree)) ⌝ }
-    ensures { λ r. ⌜ Types-expression (valued (at .context) target) at (now (text .entry)) (now (tree .entry)) (now (table .entry)) (now (code .entry)) (now (code .exit)) r ⌝ }
+    ensures { λ r. ⌜ Types-expression (valued (at .context) target) at (now (text .entry)) (now (tree .entry)) (now (table .entry)) (now (code .entry)) (now (code .exit)) (now (stack .exit)) r ⌝ }
 {
     let right = expression(text, tree, table, at, code, stack);
-    let Typing::Typed {
-        kind: k,
-        length: n,
-        word,
-    } = right
-    else {
+    let Stage::Done { count, size } = right else {
         return right;
     };
-    let context = at.context;
     let kind = target.kind;
     let place = target.place;
+    let n = slot::lanes(stack, 0);
     let length = length_or(target.lanes, n);
-    if !same_kind(k, kind) {
-        return Typing::Refused {
+    if !same_kind(slot::kind(stack, 0), kind) {
+        return Stage::Refused {
             refusal: Refusal::WrongKind,
             place,
         };
     }
     if !((n == 1) | (n == length)) {
-        return Typing::Refused {
+        return Stage::Refused {
             refusal: Refusal::WrongLength,
             place,
         };
     }
-    if !((context == 1) | (length != 1)) {
-        return Typing::Refused {
+    if !((at.context == 1) | (length != 1)) {
+        return Stage::Refused {
             refusal: Refusal::LengthOneTarget,
             place,
         };
     }
-    Typing::Typed { kind, length, word }
+    let word = slot::word(stack, 0);
+    slot::put(stack, 0, kind, length, word);
+    Stage::Done { count, size }
 }
 
-// Types a condition: its expression, then 8.
+// Types the condition of an `if` or a `while`: its expression, then 8. Its kind and its length stand in slot 0.
 pub fn condition(
     text: &[u8],
     tree: &[u32],
     table: &[u32],
     at: Point,
-    place: usize,
     code: &mut [u32],
     stack: &mut [u32],
-) -> Typing
+) -> Stage
     requires { ⌜ Typing-room (now text) (now tree) (now table) (now code) (now stack) at ⌝ }
-    requires { ⌜ There-is (Expression (now text) (now tree)) ⌝ }
-    ensures { λ r. ⌜ Types-expression (T.typed-condition (at .context) place) at (now (text .entry)) (now (tree .entry)) (now (table .entry)) (now (code .entry)) (now (code .exit)) r ⌝ }
+    requires { ⌜ There-is (Condition (now text) (now tree)) ⌝ }
+    ensures { λ r. ⌜ Types-condition at (now (text .entry)) (now (tree .entry)) (now (table .entry)) (now (code .entry)) (now (code .exit)) (now (stack .exit)) r ⌝ }
 {
-    let test = expression(text, tree, table, at, code, stack);
-    let Typing::Typed { kind, length, word } = test else {
+    let end = head::LONG + word(tree, head::CONDITION);
+    let inside = Point {
+        context: at.context,
+        count: at.count,
+        size: at.size + head::LONG,
+    };
+    let words = &tree[head::LONG..end];
+    let test = expression(text, words, table, inside, code, stack);
+    let Stage::Done { count, size } = test else {
         return test;
     };
-    if !same_kind(kind, Kind::Bool) {
-        return Typing::Refused {
+    if !same_kind(slot::kind(stack, 0), Kind::Bool) {
+        return Stage::Refused {
             refusal: Refusal::WrongKind,
-            place,
+            place: word(tree, head::PLACE),
         };
     }
-    Typing::Typed { kind, length, word }
+    Stage::Done { count, size }
 }
 
 // Types an assignment: 5, 9 at the target, the right side, then 8, 9, 10 at `=`.
@@ -149,37 +152,28 @@ pub fn assignment(
     let size = at.size;
     let place = word(tree, head::PLACE);
     let end = word(tree, head::TARGET_END);
-    let equals = word(tree, head::EQUALS);
-    match named(text, table, at, place, end) {
-        Typing::Refused { refusal, place } => Stage::Refused { refusal, place },
-        Typing::Typed {
-            kind,
-            length,
-            word: number,
-        } => {
-            let target = Target {
-                place: equals,
-                kind,
-                lanes: length,
-            };
-            let inside = Point {
-                context: at.context,
-                count: at.count,
-                size: size + head::LONG,
-            };
-            let words = &tree[head::LONG..];
-            let right = value(text, words, table, inside, target, code, stack);
-            if let Typing::Refused { refusal, place } = right {
-                return Stage::Refused { refusal, place };
-            }
-            let all = size + tree.len();
-            put_head(code, size, tag::PUT, tree[head::PLACE], number, 0, all);
-            Stage::Done {
-                count: at.count,
-                size: all,
-            }
-        }
-    }
+    let name = named(text, table, at, place, end, stack, 0);
+    let Stage::Done { .. } = name else {
+        return name;
+    };
+    let number = slot::word(stack, 0);
+    let target = Target {
+        place: word(tree, head::EQUALS),
+        kind: slot::kind(stack, 0),
+        lanes: slot::lanes(stack, 0),
+    };
+    let inside = Point {
+        context: at.context,
+        count: at.count,
+        size: size + head::LONG,
+    };
+    let words = &tree[head::LONG..];
+    let right = value(text, words, table, inside, target, code, stack);
+    let Stage::Done { count, size: all } = right else {
+        return right;
+    };
+    put_head(code, size, tag::PUT, tree[head::PLACE], number, 0, all);
+    Stage::Done { count, size: all }
 }
 
 // The kind that the first token of a declaration names.
@@ -218,12 +212,12 @@ fn plain(
     let place = word(tree, head::NAME);
     let end = word(tree, head::NAME_END);
     let new = declare(text, table, at, kind, lanes, place, end);
-    if let Typing::Refused { refusal, place } = new {
-        return Stage::Refused { refusal, place };
-    }
+    let Stage::Done { count, .. } = new else {
+        return new;
+    };
     put_step(code, size, tree[head::PLACE]);
     Stage::Done {
-        count: at.count + 1,
+        count,
         size: size + UNIT,
     }
 }
@@ -254,22 +248,20 @@ fn initial(
         size: size + head::LONG,
     };
     let words = &tree[head::DECLARATION..];
-    let length = match value(text, words, table, inside, target, code, stack) {
-        Typing::Typed { length, .. } => length,
-        Typing::Refused { refusal, place } => return Stage::Refused { refusal, place },
+    let right = value(text, words, table, inside, target, code, stack);
+    let Stage::Done { size: all, .. } = right else {
+        return right;
     };
+    let length = slot::lanes(stack, 0);
     let place = word(tree, head::NAME);
     let end = word(tree, head::NAME_END);
-    let number = match declare(text, table, at, kind, length, place, end) {
-        Typing::Typed { word, .. } => word,
-        Typing::Refused { refusal, place } => return Stage::Refused { refusal, place },
+    let new = declare(text, table, at, kind, length, place, end);
+    let Stage::Done { count, .. } = new else {
+        return new;
     };
-    let all = size + (tree.len() - (head::DECLARATION - head::LONG));
+    let number = at.count as u32;
     put_head(code, size, tag::PUT, tree[head::PLACE], number, 0, all);
-    Stage::Done {
-        count: at.count + 1,
-        size: all,
-    }
+    Stage::Done { count, size: all }
 }
 
 // Types a declaration: 7, then the rest.

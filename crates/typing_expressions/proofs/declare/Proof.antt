@@ -5,13 +5,6 @@ use borrow.Author.Needs.{needs}
 use Rattle.typing_expressions.proofs.declare.Statement.{statement}
 use Rattle.typing_expressions.proofs.declare.Tie as tie
 
--- Earlier places, from later ones.
-abbrev start-at-address : tie.After-address → tie.Start
-start-at-address c = c .before .before .before .before .before .before .before .before .before .before .before
-
-abbrev fits2-at-address : tie.After-address → tie.After-fits2
-fits2-at-address c = c .before .before .before .before .before .before .before .before
-
 fits-requires : tie.Need-fits-requires
 fits-requires c κs = search needs
 
@@ -31,13 +24,17 @@ same-length : tie.Need-same-length
 same-length c = search needs
 
 returns-2 : tie.Need-returns-2
-returns-2 c = declare-6 (c .before .before .before .before .before .fits2 .ensures) (not-false (c .before .before .before .before .before .fits2 .result) (c .before .before .before .before .if1 .left)) (c .before .before .find .ensures) (c .enum-told2 .given .1)
+returns-2 c =
+    let at-if1 = c .before .before .before .before in
+    declare-6 (at-if1 .before .fits2 .ensures) (not-false (at-if1 .before .fits2 .result) (at-if1 .if1 .left)) (c .before .before .find .ensures) (c .enum-told2 .given .1)
 
 same-length-2 : tie.Need-same-length-2
 same-length-2 c = search needs
 
 returns-3 : tie.Need-returns-3
-returns-3 c = declare-11 (c .before .before .before .before .before .before .fits2 .ensures) (not-false (c .before .before .before .before .before .before .fits2 .result) (c .before .before .before .before .before .if1 .left)) (c .before .before .before .find .ensures) (c .before .enum-told .given .1) (c .if2 .taken)
+returns-3 c =
+    let at-if1 = c .before .before .before .before .before in
+    declare-11 (at-if1 .before .fits2 .ensures) (not-false (at-if1 .before .fits2 .result) (at-if1 .if1 .left)) (c .before .before .before .find .ensures) (c .before .enum-told .given .1) (c .if2 .taken)
 
 address-requires : tie.Need-address-requires
 address-requires c κs = search needs
@@ -51,15 +48,18 @@ cast-put-2 c = search needs
 put-requires : tie.Need-put-requires
 put-requires c κs = search needs
 
-cast-t23 : tie.Need-cast-t23
-cast-t23 c = search needs
+add-t25 : tie.Need-add-t25
+add-t25 c = search needs
 
 same-length-3 : tie.Need-same-length-3
 same-length-3 c = search needs
 
 returns-4 : tie.Need-returns-4
-returns-4 c = let start = start-at-address (c .before .before .before .before) in
-    declare-ok (fits2-at-address (c .before .before .before .before) .fits2 .ensures) (not-false (fits2-at-address (c .before .before .before .before) .fits2 .result) (c .before .before .before .before .before .before .before .before .before .before .before .if1 .left)) (c .before .before .before .before .before .before .before .before .before .find .ensures) (c .before .before .before .before .before .before .before .enum-told .given .1) (c .before .before .before .before .before .before .if2 .left) (start .pre .0) (start .pre .1 .0) (start .pre .1 .1) (c .before .before .before .before .address .ensures) (c .before .before .put .ensures)
+returns-4 c =
+    let at-address = c .before .before .before .before in
+    let at-find = at-address .before .before .before .before .before in
+    let start = at-find .before .before .before .before .before .before in
+    declare-ok (at-find .before .before .before .fits2 .ensures) (not-false (at-find .before .before .before .fits2 .result) (at-find .before .before .if1 .left)) (at-find .find .ensures) (at-address .before .before .before .enum-told .given .1) (at-address .before .before .if2 .left) (start .pre .0) (start .pre .1 .0) (start .pre .1 .1) (at-address .address .ensures) (c .before .before .put .ensures)
 
 pub declare-spec : {M : Type 1} → statement M
 declare-spec =
@@ -78,6 +78,6 @@ declare-spec =
     cast-put
     cast-put-2
     put-requires
-    cast-t23
+    add-t25
     same-length-3
     returns-4)

@@ -6,19 +6,6 @@ use borrow.Author.Needs.{needs}
 use Rattle.typing_simple.proofs.plain.Statement.{statement}
 use Rattle.typing_simple.proofs.plain.Tie as tie
 
--- Earlier places, from later ones.
-abbrev start-at-declare : tie.After-declare → tie.Start
-start-at-declare c = c .before .before .before .before .before .before .before .before .before .before
-
-abbrev length-or-at-declare : tie.After-declare → tie.After-length-or
-length-or-at-declare c = c .before .before .before .before
-
-abbrev word-at-declare : tie.After-declare → tie.After-word
-word-at-declare c = c .before .before .before
-
-abbrev word2-at-declare : tie.After-declare → tie.After-word2
-word2-at-declare c = c .before .before
-
 shared-slice-read-length-or : tie.Need-shared-slice-read-length-or
 shared-slice-read-length-or c = search needs
 
@@ -32,21 +19,26 @@ word-requires-2 : tie.Need-word-requires-2
 word-requires-2 c κs = search needs
 
 declare-requires : tie.Need-declare-requires
-declare-requires c κs = let start = c .before .before .before .before .before .before .before .before .before in
+declare-requires c κs =
+    let start = c .before .before .before .before .before .before .before .before .before in
     let d = start .pre .1 .is in
     (start .pre .0 .rows, (rw (c .before .before .word .ensures, c .before .word2 .ensures) (declare-within (d .shape)), rw (c .before .before .before .length-or .ensures, ← d .shape .lanes) (length-listed (d .shape .block) (d .good) listed-one)))
 
 enum-known-new : tie.Need-enum-known-new
 enum-known-new c = search needs
 
+enum-told : tie.Need-enum-told
+enum-told c = search needs
+
 same-length : tie.Need-same-length
 same-length c = search needs
 
 returns : tie.Need-returns
-returns c = let start = start-at-declare (c .before .before .before .before .before) in λ s d. plain-no (start .pre .0) d (c .before .before .before .before .before .before .before .before .before .length-or .ensures) (c .before .before .before .before .before .before .before .before .word .ensures) (c .before .before .before .before .before .before .before .word2 .ensures) (c .before .before .before .before .before .declare .ensures) (c .before .new .given .1)
-
-enum-told : tie.Need-enum-told
-enum-told c = search needs
+returns c =
+    let at-declare = c .before .before .before .before in
+    let at-length-or = at-declare .before .before .before .before in
+    let start = at-length-or .before .before .before .before .before .before in
+    λ s d. plain-no (start .pre .0) d (at-length-or .length-or .ensures) (at-declare .before .before .before .word .ensures) (at-declare .before .before .word2 .ensures) (at-declare .declare .ensures) (c .enum-told .given .1)
 
 shared-slice-read-put-step : tie.Need-shared-slice-read-put-step
 shared-slice-read-put-step c = search needs
@@ -54,11 +46,8 @@ shared-slice-read-put-step c = search needs
 put-step-requires : tie.Need-put-step-requires
 put-step-requires c κs = search needs
 
-add-t22 : tie.Need-add-t22
-add-t22 c = search needs
-
-add-t23 : tie.Need-add-t23
-add-t23 c = search needs
+add-t21 : tie.Need-add-t21
+add-t21 c = search needs
 
 same-length-2 : tie.Need-same-length-2
 same-length-2 c = search needs
@@ -67,7 +56,12 @@ same-length-3 : tie.Need-same-length-3
 same-length-3 c = search needs
 
 returns-2 : tie.Need-returns-2
-returns-2 c = let start = start-at-declare (c .before .before .before .before .before .before .before .before .before .before) in λ s d. plain-ok (start .pre .0) d (length-or-at-declare (c .before .before .before .before .before .before .before .before .before .before) .length-or .ensures) (word-at-declare (c .before .before .before .before .before .before .before .before .before .before) .word .ensures) (word2-at-declare (c .before .before .before .before .before .before .before .before .before .before) .word2 .ensures) (c .before .before .before .before .before .before .before .before .before .before .declare .ensures) (c .before .before .before .before .before .before .enum-told .given .1) (c .before .before .before .put-step .ensures)
+returns-2 c =
+    let at-new = c .before .before .before .before .before .before in
+    let at-declare = at-new .before .before .before .before in
+    let at-length-or = at-declare .before .before .before .before in
+    let start = at-length-or .before .before .before .before .before .before in
+    λ s d. plain-ok (start .pre .0) d (at-length-or .length-or .ensures) (at-declare .before .before .before .word .ensures) (at-declare .before .before .word2 .ensures) (at-declare .declare .ensures) (at-new .new .given .1) (c .before .before .put-step .ensures)
 
 pub plain-spec : {M : Type 1} → statement M
 plain-spec =
@@ -79,13 +73,12 @@ plain-spec =
     word-requires-2
     declare-requires
     enum-known-new
+    enum-told
     same-length
     returns
-    enum-told
     shared-slice-read-put-step
     put-step-requires
-    add-t22
-    add-t23
+    add-t21
     same-length-2
     same-length-3
     returns-2)
