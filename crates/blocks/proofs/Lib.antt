@@ -1,10 +1,6 @@
-pub mod Words
 pub mod Lists
-pub mod Filling
-pub mod Pairs
-pub mod Meeting
-pub mod Registers
+pub mod Making
 pub mod Bytes
 pub mod Masks
 pub mod Stores
-pub mod Operators
+pub mod Fours

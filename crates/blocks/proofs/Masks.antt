@@ -1,22 +1,22 @@
 -- Masks as numbers, for any number of lanes: and, complement, shift, and the number of a mask.
 use Prim.Native.Nat.{ℕ, zero, suc, _+_, _*_, _/_, _%_, _-_, _^_, _<_, _≤_, min}
-use mathlib.Core.Path.{_≡_, refl, sym, ap, _∙_}
+use mathlib.Core.Path.{_≡_, refl, ap, _∙_}
 use mathlib.Core.Bool.{Bool, true, false, not, _&&_, _||_}
-use mathlib.Core.List.{List, [], _∷_, map, zipWith}
+use mathlib.Core.List.{List, [], _∷_, _++_, map, zipWith, map-append}
 use native.Mathlib.Omega.{arith}
 use native.Mathlib.Nat.{pow-suc}
+use native.Mathlib.Numerals.{add-one}
 use lib.Dec.{eqb}
 use lib.Pow.{pow-pos, pow-mono, shr-shr, ones-split, ones-lt, high}
-use lib.Bits.{bitAnd, and-step}
-use lib.ListN.{length, getD, take, drop, replicate, length-drop, length-map}
-use lib.Seq.{drop-cons, drop-length}
+use lib.Bits.{bitAnd, and-step, and-mask}
+use lib.ListN.{length, getD, take, replicate, length-map}
+use lib.Seq.{take-suc, take-all, length-take-le}
 use borrow.Author.Tests.{eq-eqb, ne-eqb}
 use Rattle.meaning.specs.Memory.{Mask, bit, truth}
 use Rattle.meaning.specs.Running.{some-lane}
+use Rattle.operators.proofs.Bytes.{truth-is}
 use Rattle.blocks.specs.Masks.{bits, number}
-use Rattle.blocks.specs.Widths.{across}
-use Rattle.blocks.proofs.Bytes.{truth-is}
-use Rattle.blocks.proofs.Meeting.{across-single, across-more}
+use Rattle.blocks.proofs.Lists.{map-at}
 
 pub length-bits : (n m : ℕ) → length (bits n m) ≡ n
 unfolding bits
@@ -89,17 +89,17 @@ unfolding number
 number-lt [] = omega arith
 number-lt (c ∷ m) = omega (arith, number-lt m, bit-lt c, pow-suc 2 (length m))
 
-low-bit : (c : Bool) (n : ℕ) → eqb ((n * 2 + bit c) % 2) 1 ≡ c
+first-bit : (c : Bool) (n : ℕ) → eqb ((n * 2 + bit c) % 2) 1 ≡ c
 unfolding bit
-low-bit true n = eq-eqb ((n * 2 + 1) % 2) 1 (omega arith)
-low-bit false n = ne-eqb ((n * 2 + 0) % 2) 1 (λ (e : (n * 2 + 0) % 2 ≡ 1). omega arith)
+first-bit true n = eq-eqb ((n * 2 + 1) % 2) 1 (omega arith)
+first-bit false n = ne-eqb ((n * 2 + 0) % 2) 1 (λ (e : (n * 2 + 0) % 2 ≡ 1). omega arith)
 
 pub bits-number : (m : Mask) → bits (length m) (number m) ≡ m
 unfolding number bits
 bits-number [] = refl
 bits-number (c ∷ m) =
     let e : (number m * 2 + bit c) / 2 ≡ number m = omega (arith, bit-lt c) in
-    rw (low-bit c (number m), e, bits-number m)
+    rw (first-bit c (number m), e, bits-number m)
 
 -- No lane, all lanes.
 pub bits-none : (n : ℕ) → bits n 0 ≡ replicate n false
@@ -133,61 +133,89 @@ some-lane-some (suc n) m l h = go (m % 2) refl (some-lane-some n (m / 2) (omega 
     go (suc zero) e r = rw e
     go (suc (suc x)) e r = absurd (omega arith)
 
--- ---- the mask of the lanes that are true, from the last lane down
-pub truths-none : (xs : List ℕ) → 0 ≡ number (map truth (drop (length xs) xs))
-unfolding number
-truths-none xs = rw (drop-length xs)
-
-pub truths-small : (xs : List ℕ) (i : ℕ) → 0 < i → i ≤ length xs → length xs ≤ 64 → number (map truth (drop i xs)) < 2 ^ 63
-truths-small xs i p q r =
-    let e : length (map truth (drop i xs)) ≡ length xs - i = length-map (drop i xs) truth ∙ length-drop i xs in
-    let l : 2 ^ length (map truth (drop i xs)) ≤ 2 ^ 63 = pow-mono {i = length (map truth (drop i xs))} {j = 63} (omega arith) in
-    omega (arith, number-lt (map truth (drop i xs)))
-
-truths-more : (xs : List ℕ) (i : ℕ) → i < length xs → number (map truth (drop (suc i) xs)) * 2 + bit (truth (getD xs i 0)) ≡ number (map truth (drop i xs))
-unfolding number
-truths-more xs i h = rw (drop-cons xs i 0 h)
-
-pub truths-true : (xs : List ℕ) (i m : ℕ) → 0 < i → i ≤ length xs → m ≡ number (map truth (drop i xs)) → (getD xs (i - 1) 0 ≡ 0 → ⊥) → m * 2 + 1 ≡ number (map truth (drop (i - 1) xs))
-unfolding bit
-truths-true xs zero m p q e h = absurd (omega arith)
-truths-true xs (suc i) m p q e h =
-    let d : suc i - 1 ≡ i = omega arith in
-    rw (d, ← truths-more xs i (omega arith), truth-is, ne-eqb (getD xs i 0) 0 (rw d at h), e)
-
-pub truths-false : (xs : List ℕ) (i m : ℕ) → 0 < i → i ≤ length xs → m ≡ number (map truth (drop i xs)) → getD xs (i - 1) 0 ≡ 0 → m * 2 ≡ number (map truth (drop (i - 1) xs))
-unfolding bit
-truths-false xs zero m p q e h = absurd (omega arith)
-truths-false xs (suc i) m p q e h =
-    let d : suc i - 1 ≡ i = omega arith in
-    rw (d, ← truths-more xs i (omega arith), truth-is, rw d at h, ← e) (omega arith)
-
--- ---- a mask at a width
+-- ---- all lanes of a width
 pub ones : (w : ℕ) → w ≤ 64 → (2 ^ 64 - 1) / 2 ^ (64 - w) ≡ 2 ^ w - 1
 ones w h =
     let e : w + (64 - w) ≡ 64 = omega arith in
     let s : 2 ^ 64 - 1 ≡ (2 ^ w - 1) * 2 ^ (64 - w) + (2 ^ (64 - w) - 1) = rw e at (ones-split w (64 - w)) in
     rw s (high (2 ^ w - 1) (64 - w) (ones-lt (64 - w)))
 
-and-true : (l : Mask) → zipWith _&&_ l (replicate (length l) true) ≡ l
-unfolding zipWith
-and-true [] = refl
-and-true (true ∷ l) = ap (λ r. true ∷ r) (and-true l)
-and-true (false ∷ l) = ap (λ r. false ∷ r) (and-true l)
+-- ---- a lane tested by a shift
+pub low-bit : (n : ℕ) → bitAnd n 1 ≡ n % 2
+low-bit n = and-mask n 1
 
-pub mask-more : (w n m : ℕ) → w ≤ n → bits w (bitAnd m (2 ^ w - 1)) ≡ across w (bits n m)
-mask-more w n m h =
-    and-bits w m (2 ^ w - 1)
-    ∙ rw (bits-all w) (rw (length-bits w m) at (and-true (bits w m)))
-    ∙ sym (take-bits w n m h)
-    ∙ across-more w (bits n m) (rw (length-bits n m) h)
+pub length-mask : (n m : ℕ) → length (map bit (bits n m)) ≡ n
+length-mask n m = length-map (bits n m) bit ∙ length-bits n m
 
-pub mask-none : (w m : ℕ) → m ≡ 0 → bits w 0 ≡ across w (bits 1 m)
+pub mask-at : (n m i : ℕ) → i < n → bit (eqb (bitAnd (m / 2 ^ i) 1) 1) ≡ getD (map bit (bits n m)) i 0
+mask-at n m i h = rw (low-bit (m / 2 ^ i), map-at bit (bits n m) i false (rw (length-bits n m) h), bits-at n m i h)
+
+-- Lanes and then lanes.
+pub bits-append : (n k m : ℕ) → bits (n + k) m ≡ bits n m ++ bits k (m / 2 ^ n)
 unfolding bits
-mask-none w m e = rw (e, across-single w false) (bits-none w)
+bits-append zero k m =
+    let z : 0 + k ≡ k = omega arith in
+    let e : m / 2 ^ 0 ≡ m = omega arith in
+    rw (z, e)
+bits-append (suc n) k m =
+    let e : m / 2 / 2 ^ n ≡ m / 2 ^ suc n = shr-shr m 1 n ∙ ap (λ j. m / 2 ^ j) (omega arith) in
+    let t : suc n + k ≡ suc (n + k) = omega arith in
+    rw (t, bits-append n k (m / 2), e)
 
-pub mask-all : (w m : ℕ) → m < 2 ^ 1 → (m ≡ 0 → ⊥) → bits w (2 ^ w - 1) ≡ across w (bits 1 m)
+-- One lane more.
+pub bits-next : (i m : ℕ) → bits (i + 1) m ≡ bits i m ++ (eqb (bitAnd (m / 2 ^ i) 1) 1 ∷ [])
 unfolding bits
-mask-all w zero l h = absurd (h refl)
-mask-all w (suc zero) l h = rw (across-single w true) (bits-all w)
-mask-all w (suc (suc m)) l h = absurd (omega arith)
+bits-next i m = bits-append i 1 m ∙ rw (low-bit (m / 2 ^ i))
+
+-- ---- the mask of the lanes that are true, from the first lane on
+number-next : (m : Mask) (c : Bool) → number (m ++ (c ∷ [])) ≡ number m + bit c * 2 ^ length m
+unfolding number bit
+number-next [] true = omega arith
+number-next [] false = omega arith
+number-next (d ∷ m) true = omega (arith, number-next m true, pow-suc 2 (length m))
+number-next (d ∷ m) false = omega (arith, number-next m false, pow-suc 2 (length m))
+
+-- A lane's bit in its place.
+at-most : (b : Bool) (i : ℕ) → bit b * 2 ^ i ≤ 2 ^ i
+unfolding bit
+at-most true i = omega arith
+at-most false i = omega arith
+
+shifted : (b : Bool) (i : ℕ) → i < 16 → bit b * 2 ^ i % 2 ^ 32 ≡ bit b * 2 ^ i
+shifted b i h = mod-small (bit b * 2 ^ i) (omega (arith, at-most b i, pow-mono {i = i} {j = 16} (omega arith)))
+  where
+    mod-small : (n : ℕ) → n < 2 ^ 32 → n % 2 ^ 32 ≡ n
+    mod-small n l = omega arith
+
+-- After i lanes.
+pub record Counting (x : List ℕ) (r i : ℕ) : Type 0 where
+  pub lanes : length x ≡ 16
+  pub few : i ≤ 16
+  pub is : r ≡ number (map truth (take i x))
+
+pub count-begun : (x : List ℕ) → length x ≡ 16 → Counting x 0 0
+unfolding number
+count-begun x h = record { lanes = h; few = omega arith; is = refl }
+
+module _ {x : List ℕ} {r i : ℕ} (c : Counting x r i) where
+  length-truths : length (map truth (take i x)) ≡ i
+  length-truths = length-map (take i x) truth ∙ length-take-le i x (omega (arith, c .lanes, c .few))
+
+  small : r < 2 ^ i
+  small = rw (c .is) (rw length-truths at (number-lt (map truth (take i x))))
+
+  pub count-small : r < 2 ^ 32
+  count-small = omega (arith, small, pow-mono {i = i} {j = 16} (c .few))
+
+  pub count-fits : i < 16 → (b : Bool) → r + bit b * 2 ^ i % 2 ^ 32 < 2 ^ 32
+  count-fits h b = rw (shifted b i h) (omega (arith, small, pow-mono {i = i} {j = 16} (c .few), at-most b i))
+
+  pub count-more : i < 16 → Counting x (r + bit (not (eqb (getD x i 0) 0)) * 2 ^ i % 2 ^ 32) (i + 1)
+  count-more h = record {
+    lanes = c .lanes;
+    few = omega arith;
+    is = rw (shifted (not (eqb (getD x i 0) 0)) i h, add-one i, take-suc x i 0 (omega (arith, c .lanes)), map-append truth (take i x) (getD x i 0 ∷ []), number-next (map truth (take i x)) (truth (getD x i 0)), length-truths, truth-is, ← c .is);
+  }
+
+  pub counted : 16 ≤ i → r ≡ number (map truth x)
+  counted h = c .is ∙ rw (take-all i x (omega (arith, c .lanes)))

@@ -1,100 +1,24 @@
--- The lowest active lane may be stored first: what is left to store is the mask without it.
-use Prim.Native.Nat.{ℕ, zero, suc, _+_, _*_, _/_, _%_, _-_, _^_, _<_, _≤_, min}
-use mathlib.Core.Path.{_≡_, refl, sym, _∙_}
-use mathlib.Core.Bool.{true, false}
-use mathlib.Core.List.{List, [], _∷_, _++_, append-assoc}
+-- A store lane by lane: what a lane more writes, and what the lanes after a part write.
+use Prim.Native.Nat.{ℕ, zero, suc, _+_, _*_, _-_, _/_, _^_, _<_, _≤_}
+use mathlib.Core.Path.{_≡_, refl, sym, ap, _∙_}
+use mathlib.Core.Bool.{Bool, true, false}
+use mathlib.Core.List.{List, [], _∷_, _++_, append-assoc, append-nil}
 use native.Mathlib.Omega.{arith}
-use native.Mathlib.Nat.{pow-suc, suc-mul, zero-mul, mul-le-mul-right}
+use native.Mathlib.Nat.{suc-mul, zero-mul, mul-le-mul-right}
+use native.Mathlib.Numerals.{add-one}
 use lib.Dec.{eqb}
-use lib.Bits.{bitAnd, and-step, and-self, and-le-r}
-use lib.Count.{trailingZeros, under}
-use lib.ListN.{length, getD, take, drop, length-append, length-drop, take-append-drop}
-use lib.Seq.{drop-drop, take-at, drop-at, take-add, length-take-le}
+use lib.Bits.{bitAnd}
+use lib.ListN.{length, getD, take, drop, set, length-append, length-drop, take-append-drop}
+use lib.Seq.{drop-drop, drop-cons, drop-length, take-at, drop-at, take-add, take-take, take-all, length-take-le, set-split}
 use Rattle.meaning.specs.declared.Kind.{Kind}
 use Rattle.meaning.specs.declared.Kind.the-variants.{Int as int, Bool as bool}
-use Rattle.meaning.specs.Memory.{Mask, size, bytes-of, little-endian, whole, store}
-use Rattle.blocks.specs.Masks.{bits, Stores}
+use Rattle.meaning.specs.Memory.{Mask, size, truth, bool-byte, bytes-of, store}
+use Rattle.operators.proofs.Bytes.{length-bytes}
+use Rattle.blocks.specs.Masks.{bits}
+use Rattle.blocks.specs.Chunks.{placed}
+use Rattle.blocks.proofs.Masks.{length-bits, bits-next}
 
-pub length-bytes : (k : Kind) (x : ℕ) → length (bytes-of k x) ≡ size k
-unfolding bytes-of size little-endian
-length-bytes int x = refl
-length-bytes bool x = refl
-
--- A list with ys in the place of as many elements from the a-th on.
-abbrev pub placed : List ℕ → ℕ → ℕ → List ℕ → List ℕ
-placed l a s ys = take a l ++ (ys ++ drop s (drop a l))
-
-length-placed : (l : List ℕ) (a s : ℕ) (ys : List ℕ) → length ys ≡ s → a + s ≤ length l → length (placed l a s ys) ≡ length l
-length-placed l a s ys e h =
-    rw (length-append (take a l) (ys ++ drop s (drop a l)), length-append ys (drop s (drop a l)), length-drop s (drop a l), length-drop a l, length-take-le a l (omega arith), e) (omega arith)
-
--- Past the first s elements it is the same of the rest.
-placed-rest : (l : List ℕ) (a s : ℕ) (ys : List ℕ) → placed l (s + a) s ys ≡ take s l ++ placed (drop s l) a s ys
-placed-rest l a s ys = rw (take-add s a l, ← drop-drop a s l) (append-assoc (take s l) (take a (drop s l)) (ys ++ drop s (drop a (drop s l))))
-
--- The mask without its lowest active lane, where that is the first and where it is not.
-odd-rest : (m : ℕ) → m % 2 ≡ 1 → (bitAnd m (m - 1) % 2 ≡ 0) × (bitAnd m (m - 1) / 2 ≡ m / 2)
-odd-rest m e =
-    let h : (m - 1) / 2 ≡ m / 2 = omega arith in
-    let l : min (m % 2) ((m - 1) % 2) ≡ 0 = omega arith in
-    let s : bitAnd m (m - 1) ≡ m / 2 * 2 = and-step m (m - 1) ∙ rw (h, l, and-self (m / 2)) (omega arith) in
-    (omega arith, omega arith)
-
-even-rest : (m : ℕ) → 0 < m → m % 2 ≡ 0 → (bitAnd m (m - 1) % 2 ≡ 0) × (bitAnd m (m - 1) / 2 ≡ bitAnd (m / 2) (m / 2 - 1))
-even-rest m p e =
-    let h : (m - 1) / 2 ≡ m / 2 - 1 = omega arith in
-    let l : min (m % 2) ((m - 1) % 2) ≡ 0 = omega arith in
-    let s : bitAnd m (m - 1) ≡ bitAnd (m / 2) (m / 2 - 1) * 2 = and-step m (m - 1) ∙ rw (h, l) (omega arith) in
-    (omega arith, omega arith)
-
-module _ (k : Kind) where
-  first-lane : (x : ℕ) (v l : List ℕ) (c : Mask) → size k ≤ length l
-      → store k (true ∷ c) (x ∷ v) l ≡ store k (false ∷ c) (x ∷ v) (placed l 0 (size k) (bytes-of k x))
-  unfolding store
-  first-lane x v l c h = rw (take-at (bytes-of k x) (drop (size k) l) (size k) (length-bytes k x), drop-at (bytes-of k x) (drop (size k) l) (size k) (length-bytes k x))
-
-  later-lane : (x a : ℕ) (v l ys : List ℕ) (c d : Mask) → size k ≤ length l → store k c v (drop (size k) l) ≡ store k d v (placed (drop (size k) l) a (size k) ys)
-      → store k (false ∷ c) (x ∷ v) l ≡ store k (false ∷ d) (x ∷ v) (placed l (size k + a) (size k) ys)
-  unfolding store
-  later-lane x a v l ys c d h e =
-      let n = length-take-le (size k) l h in
-      rw (placed-rest l a (size k) ys, take-at (take (size k) l) (placed (drop (size k) l) a (size k) ys) (size k) n, drop-at (take (size k) l) (placed (drop (size k) l) a (size k) ys) (size k) n, e)
-
-  -- m is not 0, and has n lanes as the value v has.
-  pub store-lowest : (bound n m : ℕ) (v l : List ℕ) → n ≤ bound → 0 < m → m < 2 ^ n → length v ≡ n → n * size k ≤ length l
-      → let i = trailingZeros bound m in store k (bits n m) v l ≡ store k (bits n (bitAnd m (m - 1))) v (placed l (i * size k) (size k) (bytes-of k (getD v i 0)))
-  unfolding bits trailingZeros
-  store-lowest bound zero m v l b p q e h = absurd (omega arith)
-  store-lowest zero (suc n) m v l b p q e h = absurd (omega arith)
-  store-lowest (suc bound) (suc n) m [] l b p q e h = absurd (omega arith)
-  store-lowest (suc bound) (suc n) m (x ∷ v) l b p q e h =
-      let room : size k + n * size k ≤ length l = omega (arith, suc-mul n (size k)) in
-      go room (m % 2) refl (λ z. store-lowest bound n (m / 2) v (drop (size k) l) (omega arith) z (omega (arith, pow-suc 2 n)) (omega arith) (omega (arith, length-drop (size k) l)))
-    where
-      go : size k + n * size k ≤ length l → (r : ℕ) → m % 2 ≡ r
-          → (0 < m / 2 → let i = trailingZeros bound (m / 2) in store k (bits n (m / 2)) v (drop (size k) l) ≡ store k (bits n (bitAnd (m / 2) (m / 2 - 1))) v (placed (drop (size k) l) (i * size k) (size k) (bytes-of k (getD v i 0))))
-          → let i = under (m % 2) (trailingZeros bound (m / 2)) in
-          store k (eqb (m % 2) 1 ∷ bits n (m / 2)) (x ∷ v) l
-          ≡ store k (eqb (bitAnd m (m - 1) % 2) 1 ∷ bits n (bitAnd m (m - 1) / 2)) (x ∷ v) (placed l (i * size k) (size k) (bytes-of k (getD {A = ℕ} (x ∷ v) i 0)))
-      go room zero r rec =
-          let t = trailingZeros bound (m / 2) in
-          let a : suc t * size k ≡ size k + t * size k = suc-mul t (size k) ∙ omega arith in
-          rw (r, even-rest m p r .0, even-rest m p r .1, a) (later-lane x (t * size k) v l (bytes-of k (getD v t 0)) (bits n (m / 2)) (bits n (bitAnd (m / 2) (m / 2 - 1))) (omega arith) (rec (omega arith)))
-      go room (suc zero) r rec = rw (r, odd-rest m r .0, odd-rest m r .1, zero-mul (size k)) (first-lane x v l (bits n (m / 2)) (omega arith))
-      go room (suc (suc r)) e rec = absurd (omega arith)
-
--- There is such a lane among the n.
-pub lowest-lt : (bound n m : ℕ) → n ≤ bound → 0 < m → m < 2 ^ n → trailingZeros bound m < n
-unfolding trailingZeros
-lowest-lt bound zero m b p q = absurd (omega arith)
-lowest-lt zero (suc n) m b p q = absurd (omega arith)
-lowest-lt (suc bound) (suc n) m b p q = go (m % 2) refl (λ z. lowest-lt bound n (m / 2) (omega arith) z (omega (arith, pow-suc 2 n)))
-  where
-    go : (r : ℕ) → m % 2 ≡ r → (0 < m / 2 → trailingZeros bound (m / 2) < n) → under (m % 2) (trailingZeros bound (m / 2)) < suc n
-    go zero e rec = rw e (omega (arith, rec (omega arith)))
-    go (suc r) e rec = rw e (omega arith)
-
--- No lane is left to store.
+-- No lane is active.
 pub store-none : (k : Kind) (n : ℕ) (v l : List ℕ) → length v ≡ n → n * size k ≤ length l → store k (bits n 0) v l ≡ l
 unfolding bits store
 store-none k zero v l e h = refl
@@ -103,43 +27,156 @@ store-none k (suc n) (x ∷ v) l e h =
     let room : size k + n * size k ≤ length l = omega (arith, suc-mul n (size k)) in
     rw (store-none k n v (drop (size k) l) (omega arith) (omega (arith, length-drop (size k) l))) (take-append-drop (size k) l)
 
-some-of : (n : ℕ) → (n ≡ 0 → ⊥) → 0 < n
-some-of zero h = absurd (h refl)
-some-of (suc n) h = omega arith
+-- ---- parts of a list
+pub part-of-front : (s k : ℕ) (l : List ℕ) → s ≤ length l → drop s (take (s + k) l) ≡ take k (drop s l)
+part-of-front s k l h = rw (take-add s k l) (drop-at (take s l) (take k (drop s l)) s (length-take-le s l h))
 
--- A loop that stores the active lanes of a value, the lowest first; `left` has those that are left.
-pub record Storing (k : Kind) (mask : ℕ) (v l₀ l : List ℕ) (left : ℕ) : Type 0 where
-  pub few : length v ≤ 64
-  pub room : length l₀ ≡ length v * size k
+none-left : (n : ℕ) (l : List ℕ) → length l ≡ n → drop n l ≡ []
+none-left n l e = rw (← e) (drop-length l)
+
+module _ (k : Kind) where
+  -- ---- one lane
+  pub one-active : (x : ℕ) (l : List ℕ) → length l ≡ size k → store k (true ∷ []) (x ∷ []) l ≡ bytes-of k x
+  unfolding store
+  one-active x l h = rw (none-left (size k) l h) (append-nil (bytes-of k x))
+
+  pub one-idle : (x : ℕ) (l : List ℕ) → length l ≡ size k → store k (false ∷ []) (x ∷ []) l ≡ l
+  unfolding store
+  one-idle x l h = rw (none-left (size k) l h) (append-nil (take (size k) l) ∙ take-all (size k) l (omega arith))
+
+  -- ---- a store in two parts
+  pub store-append : (m n : Mask) (v w l : List ℕ) → length m ≡ length v → length v * size k ≤ length l
+      → store k (m ++ n) (v ++ w) l ≡ store k m v (take (length v * size k) l) ++ store k n w (drop (length v * size k) l)
+  unfolding store
+  store-append [] n [] w l e h = rw (zero-mul (size k))
+  store-append [] n (x ∷ v) w l e h = absurd (omega arith)
+  store-append (c ∷ m) n [] w l e h = absurd (omega arith)
+  store-append (true ∷ m) n (x ∷ v) w l e h =
+      let t : suc (length v) * size k ≡ size k + length v * size k = suc-mul (length v) (size k) ∙ omega arith in
+      let room : size k + length v * size k ≤ length l = omega arith in
+      rw (t, part-of-front (size k) (length v * size k) l (omega arith), ← drop-drop (length v * size k) (size k) l, store-append m n v w (drop (size k) l) (omega arith) (omega (arith, length-drop (size k) l)))
+      (sym (append-assoc (bytes-of k x) (store k m v (take (length v * size k) (drop (size k) l))) (store k n w (drop (length v * size k) (drop (size k) l)))))
+  store-append (false ∷ m) n (x ∷ v) w l e h =
+      let t : suc (length v) * size k ≡ size k + length v * size k = suc-mul (length v) (size k) ∙ omega arith in
+      let room : size k + length v * size k ≤ length l = omega arith in
+      rw (t, part-of-front (size k) (length v * size k) l (omega arith), take-take (size k) (size k + length v * size k) l (omega arith), ← drop-drop (length v * size k) (size k) l, store-append m n v w (drop (size k) l) (omega arith) (omega (arith, length-drop (size k) l)))
+      (sym (append-assoc (take (size k) l) (store k m v (take (length v * size k) (drop (size k) l))) (store k n w (drop (length v * size k) (drop (size k) l)))))
+
+  pub length-store : (m : Mask) (v l : List ℕ) → length v * size k ≤ length l → length (store k m v l) ≡ length l
+  unfolding store
+  length-store [] v l h = refl
+  length-store (c ∷ m) [] l h = refl
+  length-store (true ∷ m) (x ∷ v) l h =
+      let room : size k + length v * size k ≤ length l = omega (arith, suc-mul (length v) (size k)) in
+      omega (arith, length-append (bytes-of k x) (store k m v (drop (size k) l)), length-bytes k x, length-store m v (drop (size k) l) (omega (arith, length-drop (size k) l)), length-drop (size k) l)
+  length-store (false ∷ m) (x ∷ v) l h =
+      let room : size k + length v * size k ≤ length l = omega (arith, suc-mul (length v) (size k)) in
+      omega (arith, length-append (take (size k) l) (store k m v (drop (size k) l)), length-take-le (size k) l (omega arith), length-store m v (drop (size k) l) (omega (arith, length-drop (size k) l)), length-drop (size k) l)
+
+  -- A lane's bytes in their place.
+  pub length-lane : (c : Bool) (x : ℕ) (l : List ℕ) (a : ℕ) → a + size k ≤ length l → length (placed l a (size k) (store k (c ∷ []) (x ∷ []) (take (size k) (drop a l)))) ≡ length l
+  length-lane c x l a h =
+      let t : length (take (size k) (drop a l)) ≡ size k = length-take-le (size k) (drop a l) (omega (arith, length-drop a l)) in
+      let e : length (store k (c ∷ []) (x ∷ []) (take (size k) (drop a l))) ≡ size k = length-store (c ∷ []) (x ∷ []) (take (size k) (drop a l)) (omega (arith, t)) ∙ t in
+      rw (length-append (take a l) (store k (c ∷ []) (x ∷ []) (take (size k) (drop a l)) ++ drop (size k) (drop a l)), length-append (store k (c ∷ []) (x ∷ []) (take (size k) (drop a l))) (drop (size k) (drop a l)), length-drop (size k) (drop a l), length-drop a l, length-take-le a l (omega arith), e) (omega arith)
+
+  -- ---- one lane more: v is stored under m, and then x, the next lane, under c
+  module _ (m : Mask) (c : Bool) (x : ℕ) (v w l : List ℕ) (e : length m ≡ length v) (room : length v * size k + size k ≤ length l) where
+    a : ℕ
+    a = length v * size k
+
+    -- What the first lanes leave, and what stands behind them.
+    front : List ℕ
+    front = store k m v (take a l)
+
+    long-front : length front ≡ a
+    unfolding front a
+    long-front = let t : length (take (length v * size k) l) ≡ length v * size k = length-take-le (length v * size k) l (omega arith) in
+        length-store m v (take (length v * size k) l) (omega (arith, t)) ∙ t
+
+    before : store k m (v ++ (x ∷ w)) l ≡ front ++ drop a l
+    unfolding front a store
+    before = rw (append-nil m) at (store-append m [] v (x ∷ w) l e (omega arith))
+
+    one : store k (c ∷ []) (x ∷ w) (drop a l) ≡ store k (c ∷ []) (x ∷ []) (take (size k) (drop a l)) ++ drop (size k) (drop a l)
+    unfolding a store
+    one =
+        let s : 1 * size k ≡ size k = omega arith in
+        rw s at (store-append (c ∷ []) [] (x ∷ []) w (drop (length v * size k) l) refl (rw s (omega (arith, length-drop (length v * size k) l))))
+
+    pub next-lane : store k (m ++ (c ∷ [])) (v ++ (x ∷ w)) l
+        ≡ placed (store k m (v ++ (x ∷ w)) l) (length v * size k) (size k) (store k (c ∷ []) (x ∷ []) (take (size k) (drop (length v * size k) (store k m (v ++ (x ∷ w)) l))))
+    unfolding front a
+    next-lane =
+        rw (before, take-at front (drop a l) a long-front, drop-at front (drop a l) a long-front, ← one)
+        (store-append m (c ∷ []) v (x ∷ w) l e (omega arith))
+
+-- ---- a loop that stores the active ones of n lanes of v, the first first
+pub record Storing (k : Kind) (mask n : ℕ) (v l₀ l : List ℕ) (i : ℕ) : Type 0 where
+  pub few : n ≤ length v
+  pub room : length l₀ ≡ n * size k
+  pub within : i ≤ n
   pub kept : length l ≡ length l₀
-  pub in-lanes : left < 2 ^ length v
-  pub is : store k (bits (length v) mask) v l₀ ≡ store k (bits (length v) left) v l
+  pub is : l ≡ store k (bits i mask) v l₀
 
-pub storing : {k : Kind} {mask : ℕ} (v l : List ℕ) → Stores k (length l) mask (length v) → Storing k mask v l l mask
-unfolding whole
-storing v l s = record { few = s .few; room = s .room; kept = refl; in-lanes = s .in-lanes; is = refl }
+pub store-begun : {k : Kind} (mask n : ℕ) (v l : List ℕ) → n ≤ length v → length l ≡ n * size k → Storing k mask n v l l 0
+unfolding bits store
+store-begun mask n v l h e = record { few = h; room = e; within = omega arith; kept = refl; is = refl }
 
-module _ {k : Kind} {mask left : ℕ} {v l₀ l : List ℕ} (s : Storing k mask v l₀ l left) where
-  pub lane-of-lowest : (left ≡ 0 → ⊥) → trailingZeros 64 left < length v
-  lane-of-lowest h = lowest-lt 64 (length v) left (s .few) (some-of left h) (s .in-lanes)
+module _ {k : Kind} {mask n i : ℕ} {v l₀ l : List ℕ} (s : Storing k mask n v l₀ l i) where
+  pub lane-room : i < n → i * size k + size k ≤ length l
+  lane-room h = omega (arith, mul-le-mul-right (size k) h, suc-mul i (size k), s .room, s .kept)
 
-  pub lane-room : (left ≡ 0 → ⊥) → let i = trailingZeros 64 left in i * size k + size k ≤ length l
-  lane-room h =
-      let i = trailingZeros 64 left in
-      omega (arith, mul-le-mul-right (size k) (lane-of-lowest h), suc-mul i (size k), s .room, s .kept)
+  -- The lane's bytes become what a store of the lane alone makes of them.
+  pub one-stored : i < n → {next : List ℕ}
+      → next ≡ placed l (i * size k) (size k) (store k (eqb (bitAnd (mask / 2 ^ i) 1) 1 ∷ []) (getD v i 0 ∷ []) (take (size k) (drop (i * size k) l))) → Storing k mask n v l₀ next (i + 1)
+  one-stored h {next} g =
+      let split : v ≡ take i v ++ (getD v i 0 ∷ drop (suc i) v) = sym (rw (← drop-cons v i 0 (omega (arith, s .few))) (take-append-drop i v)) in
+      let long : length (take i v) ≡ i = length-take-le i v (omega (arith, s .few)) in
+      record {
+        few = s .few;
+        room = s .room;
+        within = omega arith;
+        kept = rw g (length-lane k (eqb (bitAnd (mask / 2 ^ i) 1) 1) (getD v i 0) l (i * size k) (lane-room h)) ∙ s .kept;
+        is = g ∙ rw (s .is, bits-next i mask) (sym (split-next split long));
+      }
+    where
+      split-next : v ≡ take i v ++ (getD v i 0 ∷ drop (suc i) v) → length (take i v) ≡ i
+          → store k (bits i mask ++ (eqb (bitAnd (mask / 2 ^ i) 1) 1 ∷ [])) v l₀
+          ≡ placed (store k (bits i mask) v l₀) (i * size k) (size k) (store k (eqb (bitAnd (mask / 2 ^ i) 1) 1 ∷ []) (getD v i 0 ∷ []) (take (size k) (drop (i * size k) (store k (bits i mask) v l₀))))
+      split-next split long = rw (long, ← split) at (next-lane k (bits i mask) (eqb (bitAnd (mask / 2 ^ i) 1) 1) (getD v i 0) (take i v) (drop (suc i) v) l₀ (length-bits i mask ∙ sym long) (rw long (omega (arith, lane-room h, s .kept))))
 
-  pub falls : (left ≡ 0 → ⊥) → bitAnd left (left - 1) < left
-  falls h = omega (arith, and-le-r left (left - 1), some-of left h)
+  pub all-stored : n ≤ i → l ≡ store k (bits n mask) v l₀
+  all-stored h = let e : i ≡ n = omega (arith, s .within) in s .is ∙ rw e
 
-  pub one-stored : (left ≡ 0 → ⊥) → {next : List ℕ} → let i = trailingZeros 64 left in
-      next ≡ placed l (i * size k) (size k) (bytes-of k (getD v i 0)) → Storing k mask v l₀ next (bitAnd left (left - 1))
-  one-stored h {next} e = record {
-    few = s .few;
-    room = s .room;
-    kept = rw e (length-placed l (trailingZeros 64 left * size k) (size k) (bytes-of k (getD v (trailingZeros 64 left) 0)) (length-bytes k (getD v (trailingZeros 64 left) 0)) (lane-room h) ∙ s .kept);
-    in-lanes = omega (arith, falls h, s .in-lanes);
-    is = s .is ∙ rw e (store-lowest k 64 (length v) left v l (s .few) (some-of left h) (s .in-lanes) refl (omega (arith, s .room, s .kept)));
-  }
+-- ---- the i-th int, as `&mut bytes[from..to]` has it
+four : (i : ℕ) → i * 4 + 4 - i * 4 ≡ 4
+four i = omega arith
 
-  pub all-stored : left ≡ 0 → l ≡ store k (bits (length v) mask) v l₀
-  all-stored e = sym (s .is ∙ rw e (store-none k (length v) v l refl (omega (arith, s .room, s .kept))))
+pub length-int : (l : List ℕ) (i : ℕ) → i * size int + size int ≤ length l → length (take (i * 4 + 4 - i * 4) (drop (i * 4) l)) ≡ 4
+unfolding size
+length-int l i h = rw (four i) (length-take-le 4 (drop (i * 4) l) (omega (arith, length-drop (i * 4) l)))
+
+pub int-stored : (l : List ℕ) (i x : ℕ) (c : Bool) {ys : List ℕ} → ys ≡ store int (c ∷ []) (x ∷ []) (take (i * 4 + 4 - i * 4) (drop (i * 4) l))
+    → placed l (i * 4) (i * 4 + 4 - i * 4) ys ≡ placed l (i * size int) (size int) (store int (c ∷ []) (x ∷ []) (take (size int) (drop (i * size int) l)))
+unfolding size
+int-stored l i x c {ys} e =
+    let g : ys ≡ store int (c ∷ []) (x ∷ []) (take 4 (drop (i * 4) l)) = e ∙ ap (λ n. store int (c ∷ []) (x ∷ []) (take n (drop (i * 4) l))) (four i) in
+    rw (four i, g)
+
+-- ---- the i-th bool, where it is active and where it is not
+module _ (l : List ℕ) (i x : ℕ) (c : Bool) (h : i < length l) where
+  one-byte : length (take 1 (drop i l)) ≡ 1
+  one-byte = length-take-le 1 (drop i l) (omega (arith, length-drop i l))
+
+  pub bool-stored : c ≡ true → {b : ℕ} → b ≡ bool-byte (truth x) → set l i b ≡ placed l (i * size bool) (size bool) (store bool (c ∷ []) (x ∷ []) (take (size bool) (drop (i * size bool) l)))
+  unfolding size bytes-of
+  bool-stored t {b} e =
+      let z : i * 1 ≡ i = omega arith in
+      rw (t, z, one-active bool x (take 1 (drop i l)) one-byte, drop-drop 1 i l, add-one i, e) (set-split l i (bool-byte (truth x)) h)
+
+  pub bool-kept : c ≡ false → l ≡ placed l (i * size bool) (size bool) (store bool (c ∷ []) (x ∷ []) (take (size bool) (drop (i * size bool) l)))
+  unfolding size
+  bool-kept f =
+      let z : i * 1 ≡ i = omega arith in
+      rw (f, z, one-idle bool x (take 1 (drop i l)) one-byte, take-append-drop 1 (drop i l)) (sym (take-append-drop i l))

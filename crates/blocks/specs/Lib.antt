@@ -1,3 +1,2 @@
-pub mod Operators
 pub mod Masks
-pub mod Widths
+pub mod Chunks

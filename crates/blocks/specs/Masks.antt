@@ -1,14 +1,8 @@
 -- A mask as an unsigned number, one bit a lane: lane i is bit i.
-use Prim.Native.Nat.{ℕ, zero, suc, _+_, _*_, _/_, _%_, _^_, _<_, _≤_}
-use mathlib.Core.Path.{_≡_}
+use Prim.Native.Nat.{ℕ, zero, suc, _+_, _*_, _/_, _%_}
 use mathlib.Core.List.{[], _∷_}
 use lib.Dec.{eqb}
-use Rattle.meaning.specs.declared.Kind.{Kind}
-use Rattle.meaning.specs.Memory.{Mask, bit, whole}
-
--- The words of a register: one for each bit of a mask.
-abbrev pub register-words : ℕ
-register-words = 64
+use Rattle.meaning.specs.Memory.{Mask, bit}
 
 -- The mask of n lanes that a number holds.
 unfoldable pub bits : ℕ → ℕ → Mask
@@ -19,9 +13,3 @@ bits (suc n) m = eqb (m % 2) 1 ∷ bits n (m / 2)
 unfoldable pub number : Mask → ℕ
 number [] = 0
 number (c ∷ m) = number m * 2 + bit c
-
--- The bytes of a variable of kind k, a mask and a value are of one number of lanes.
-pub record Stores (k : Kind) (bytes mask lanes : ℕ) : Type 0 where
-  pub few : lanes ≤ register-words
-  pub room : bytes ≡ whole k lanes
-  pub in-lanes : mask < 2 ^ lanes

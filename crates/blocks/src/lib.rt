@@ -1,362 +1,315 @@
-// The lanes of blocks: operators on their words, a variable's lanes from and to its bytes, and masks.
+// Chunks of 16 lanes by value: operators between them, a variable's lanes from and to its bytes, and masks.
 ghost use mathlib.Core.Path.{_≡_};
-ghost use mathlib.Core.List.{map, zipWith, _++_};
-ghost use Prim.Native.Nat.{_+_, _*_, _<_, _≤_, _^_};
-ghost use lib.ListN.{length, take, drop};
+ghost use mathlib.Core.Bool.{Bool};
+ghost use mathlib.Core.List.{[], _∷_, map, zipWith, _++_};
+ghost use Prim.Native.Nat.{ℕ, _+_, _*_, _<_, _≤_, _-_};
+ghost use lib.ListN.{length, take, drop, replicate};
 ghost use Rattle.meaning.specs.declared.Kind.the-variants.{Int as int, Bool as bool};
-ghost use Rattle.meaning.specs.Memory.{truth, bit as lane-bit, whole, lane-of, bytes-of, bool-byte, load as loaded, store as stored};
-ghost use Rattle.layout.specs.Words.{sign-of, operator-of};
-ghost use Rattle.meaning.specs.Running.{word, less, unary-of, binary-of, lanewise};
-ghost use Rattle.blocks.specs.Operators.{sum-of, order-of, join-of};
-ghost use Rattle.blocks.specs.Masks.{register-words, bits, number, Stores};
-ghost use Rattle.blocks.specs.Widths.{int-size, wide as meeting, across, Spreads, Meets};
-use layout::tag;
-use layout::token;
+ghost use Rattle.meaning.specs.Memory.{truth, bit as lane-bit, whole, load as loaded, store as stored};
+ghost use Rattle.meaning.specs.Running.{word-binary, unary-of, binary-of};
+ghost use Rattle.layout.specs.Instructions.{chunk-lanes};
+ghost use Rattle.operators.specs.Operators.{int-size, Sum, Order, Join};
+ghost use Rattle.blocks.specs.Masks.{bits, number};
+ghost use Rattle.blocks.specs.Chunks.{placed, padded, in-chunk, four-ints};
+use meaning::Binary;
 use meaning::Kind;
-use std::num::wrapping_add_u32;
-use std::num::wrapping_sub_u32;
+use meaning::Unary;
+use operators::INT;
+use operators::bit;
+use operators::int_of;
+use operators::put_int;
 
-// The words of a register: one for each bit of a mask; and of two that lie side by side.
-pub const REGISTER: usize = 64;
+// The lanes of a chunk.
+const CHUNK: usize = layout::instruction::CHUNK;
 
-pub const PAIR: usize = 2 * REGISTER;
-
-// The bytes of an int.
-pub const INT: usize = 4;
-
-// The tags of unary `-` and `~`.
-const MINUS: u32 = tag::UNARY + token::MINUS;
-
-const INVERSE: u32 = tag::UNARY + token::INVERSE;
-
-// The product of two lanes: its low 32 bits.
-fn times(x: u32, y: u32) -> u32
-    ensures { λ r. ⌜ r ≡ word (x * y) ⌝ }
+// `+`, `-` or `*`, lane by lane.
+fn sums(operator: Binary, x: [u32; 16], y: [u32; 16]) -> [u32; 16]
+    requires { ⌜ Sum operator ⌝ }
+    ensures { λ r. ⌜ r ≡ zipWith (word-binary operator) x y ⌝ }
 {
-    ((x as u64) * (y as u64) % 0x1_0000_0000) as u32
-}
-
-// Is x below y, as signed numbers?
-fn below(x: u32, y: u32) -> bool
-    ensures { λ r. ⌜ r ≡ less x y ⌝ }
-{
-    wrapping_add_u32(x, 0x8000_0000) < wrapping_add_u32(y, 0x8000_0000)
-}
-
-// A truth as a lane.
-fn bit(c: bool) -> u32
-    ensures { λ r. ⌜ r ≡ lane-bit c ⌝ }
-{
-    if c { 1 } else { 0 }
-}
-
-// One lane of `+`, `-` or `*`.
-fn sum(tag: u32, x: u32, y: u32) -> u32
-    ensures { λ r. ⌜ r ≡ binary-of int (sum-of tag) x y ⌝ }
-{
-    match tag {
-        token::PLUS => wrapping_add_u32(x, y),
-        token::MINUS => wrapping_sub_u32(x, y),
-        _ => times(x, y),
-    }
-}
-
-// One lane of `<`, `>`, `<=` or `>=`.
-fn order(tag: u32, x: u32, y: u32) -> u32
-    ensures { λ r. ⌜ r ≡ binary-of int (order-of tag) x y ⌝ }
-{
-    match tag {
-        token::BELOW => bit(below(x, y)),
-        token::ABOVE => bit(below(y, x)),
-        token::AT_MOST => bit(!below(y, x)),
-        _ => bit(!below(x, y)),
-    }
-}
-
-// One lane of `&`, `|`, `^`, `==` or `!=`.
-fn join(tag: u32, x: u32, y: u32) -> u32
-    ensures { λ r. ⌜ r ≡ binary-of int (join-of tag) x y ⌝ }
-{
-    match tag {
-        token::AND => x & y,
-        token::OR => x | y,
-        token::XOR => x ^ y,
-        token::EQUAL => bit(x == y),
-        _ => bit(x != y),
-    }
-}
-
-// One lane of unary `-`, `~` or `!`.
-fn sign(tag: u32, x: u32) -> u32
-    ensures { λ r. ⌜ r ≡ unary-of int (sign-of tag) x ⌝ }
-{
-    match tag {
-        MINUS => wrapping_sub_u32(0, x),
-        INVERSE => !x,
-        _ => bit(x == 0),
-    }
-}
-
-// `+`, `-` or `*` between two registers that lie side by side; the first takes the result.
-fn sums(tag: u32, pair: &mut [u32], width: usize)
-    requires { ⌜ (width ≤ register-words) × (length (now pair) ≡ 2 * register-words) ⌝ }
-    ensures { λ _. ⌜ take width (now (pair .exit)) ≡ zipWith (binary-of int (sum-of tag)) (take width (now (pair .entry))) (take width (drop register-words (now (pair .entry)))) ⌝ }
-{
-    let mut i = 0;
-    while i < width {
-        pair[i] = sum(tag, pair[i], pair[i + REGISTER]);
+    let mut r = [0u32; 16];
+    let mut i = 0usize;
+    while i < 16 {
+        r[i] = operators::sum(operator, x[i], y[i]);
         i += 1;
     }
+    r
 }
 
-// The same of `<`, `>`, `<=` and `>=`.
-fn orders(tag: u32, pair: &mut [u32], width: usize)
-    requires { ⌜ (width ≤ register-words) × (length (now pair) ≡ 2 * register-words) ⌝ }
-    ensures { λ _. ⌜ take width (now (pair .exit)) ≡ zipWith (binary-of int (order-of tag)) (take width (now (pair .entry))) (take width (drop register-words (now (pair .entry)))) ⌝ }
+// `<`, `>`, `<=` or `>=`, lane by lane.
+fn orders(operator: Binary, x: [u32; 16], y: [u32; 16]) -> [u32; 16]
+    requires { ⌜ Order operator ⌝ }
+    ensures { λ r. ⌜ r ≡ zipWith (word-binary operator) x y ⌝ }
 {
-    let mut i = 0;
-    while i < width {
-        pair[i] = order(tag, pair[i], pair[i + REGISTER]);
+    let mut r = [0u32; 16];
+    let mut i = 0usize;
+    while i < 16 {
+        r[i] = operators::order(operator, x[i], y[i]);
         i += 1;
+    }
+    r
+}
+
+// `|`, `^`, `&`, `==` or `!=`, lane by lane.
+fn joins(operator: Binary, x: [u32; 16], y: [u32; 16]) -> [u32; 16]
+    requires { ⌜ Join operator ⌝ }
+    ensures { λ r. ⌜ r ≡ zipWith (word-binary operator) x y ⌝ }
+{
+    let mut r = [0u32; 16];
+    let mut i = 0usize;
+    while i < 16 {
+        r[i] = operators::join(operator, x[i], y[i]);
+        i += 1;
+    }
+    r
+}
+
+// A binary operator between two chunks of a kind, lane by lane.
+pub fn operate(kind: Kind, operator: Binary, x: [u32; 16], y: [u32; 16]) -> [u32; 16]
+    ensures { λ r. ⌜ r ≡ zipWith (binary-of kind operator) x y ⌝ }
+{
+    match operator {
+        Binary::Add => sums(operator, x, y),
+        Binary::Sub => sums(operator, x, y),
+        Binary::Mul => sums(operator, x, y),
+        Binary::Lt => orders(operator, x, y),
+        Binary::Gt => orders(operator, x, y),
+        Binary::Le => orders(operator, x, y),
+        Binary::Ge => orders(operator, x, y),
+        _ => joins(operator, x, y),
     }
 }
 
-// The same of `&`, `|`, `^`, `==` and `!=`.
-fn joins(tag: u32, pair: &mut [u32], width: usize)
-    requires { ⌜ (width ≤ register-words) × (length (now pair) ≡ 2 * register-words) ⌝ }
-    ensures { λ _. ⌜ take width (now (pair .exit)) ≡ zipWith (binary-of int (join-of tag)) (take width (now (pair .entry))) (take width (drop register-words (now (pair .entry)))) ⌝ }
+// A unary operator of a chunk of a kind, lane by lane.
+pub fn signs(kind: Kind, operator: Unary, x: [u32; 16]) -> [u32; 16]
+    ensures { λ r. ⌜ r ≡ map (unary-of kind operator) x ⌝ }
 {
-    let mut i = 0;
-    while i < width {
-        pair[i] = join(tag, pair[i], pair[i + REGISTER]);
+    let mut r = [0u32; 16];
+    let mut i = 0usize;
+    while i < 16 {
+        r[i] = operators::sign(operator, x[i]);
         i += 1;
     }
+    r
 }
 
-// Unary `-`, `~` or `!` of every lane.
-pub fn signs(tag: u32, lanes: &mut [u32])
-    ensures { λ _. ⌜ now (lanes .exit) ≡ map (unary-of int (sign-of tag)) (now (lanes .entry)) ⌝ }
+// One lane in all.
+pub fn all(x: u32) -> [u32; 16]
+    ensures { λ r. ⌜ r ≡ replicate chunk-lanes x ⌝ }
 {
-    let mut i = 0;
-    while i < lanes.len() {
-        lanes[i] = sign(tag, lanes[i]);
+    [x; 16]
+}
+
+// A chunk of ints from the bytes at an address.
+pub fn ints16(memory: &[u8], at: usize) -> [u32; 16]
+    requires { ⌜ at + whole int chunk-lanes ≤ length (now memory) ⌝ }
+    ensures { λ r. ⌜ r ≡ loaded int chunk-lanes (drop at (now (memory .entry))) ⌝ }
+{
+    let mut r = [0u32; 16];
+    let mut i = 0usize;
+    while i < 16 {
+        let from = at + i * INT;
+        let to = from + INT;
+        r[i] = int_of(&memory[from..to]);
         i += 1;
     }
+    r
 }
 
-// How many lanes there are where n and m lanes meet.
-pub fn wide(n: usize, m: usize) -> usize
-    ensures { λ r. ⌜ r ≡ meeting n m ⌝ }
+// n ints from the bytes at an address, and zeros.
+fn ints(memory: &[u8], at: usize, n: usize) -> [u32; 16]
+    requires { ⌜ (n ≤ chunk-lanes) × (at + whole int n ≤ length (now memory)) ⌝ }
+    ensures { λ r. ⌜ r ≡ padded (loaded int n (drop at (now (memory .entry)))) ⌝ }
 {
+    let mut r = [0u32; 16];
+    let mut i = 0usize;
+    while i < n {
+        let from = at + i * INT;
+        let to = from + INT;
+        r[i] = int_of(&memory[from..to]);
+        i += 1;
+    }
+    r
+}
+
+// n bools from the bytes at an address, and zeros.
+fn bools(memory: &[u8], at: usize, n: usize) -> [u32; 16]
+    requires { ⌜ (n ≤ chunk-lanes) × (at + whole bool n ≤ length (now memory)) ⌝ }
+    ensures { λ r. ⌜ r ≡ padded (loaded bool n (drop at (now (memory .entry)))) ⌝ }
+{
+    let mut r = [0u32; 16];
+    let mut i = 0usize;
+    while i < n {
+        r[i] = bit(memory[at + i] != 0);
+        i += 1;
+    }
+    r
+}
+
+// The lanes of a variable of a kind and n lanes: where it has one, that one in all.
+pub fn load(kind: Kind, memory: &[u8], at: usize, n: usize) -> [u32; 16]
+    requires { ⌜ (n ≤ chunk-lanes) × (at + whole kind n ≤ length (now memory)) ⌝ }
+    ensures { λ r. ⌜ r ≡ in-chunk (loaded kind n (drop at (now (memory .entry)))) ⌝ }
+{
+    let lanes = match kind {
+        Kind::Int => ints(memory, at, n),
+        Kind::Bool => bools(memory, at, n),
+    };
     if n == 1 {
-        return m;
+        return all(lanes[0]);
     }
-    if m == 1 {
-        return n;
-    }
-    if n <= m { n } else { m }
-}
-
-// Replicates the one lane of a value of n lanes over a width.
-pub fn spread(register: &mut [u32], n: usize, width: usize)
-    requires { ⌜ Spreads n width (length (now register)) ⌝ }
-    ensures { λ _. ⌜ take width (now (register .exit)) ≡ across width (take n (now (register .entry))) ⌝ }
-{
-    if n == 1 {
-        let lane = register[0];
-        let mut i = 0;
-        while i < width {
-            register[i] = lane;
-            i += 1;
-        }
-    }
-}
-
-// The operator of a tag between two registers that lie side by side; the first takes the result.
-fn operate(tag: u32, pair: &mut [u32], width: usize)
-    requires { ⌜ (width ≤ register-words) × (length (now pair) ≡ 2 * register-words) ⌝ }
-    ensures { λ _. ⌜ take width (now (pair .exit)) ≡ zipWith (binary-of int (operator-of tag)) (take width (now (pair .entry))) (take width (drop register-words (now (pair .entry)))) ⌝ }
-{
-    if (tag == token::BELOW)
-        | (tag == token::ABOVE)
-        | (tag == token::AT_MOST)
-        | (tag == token::AT_LEAST)
-    {
-        orders(tag, pair, width)
-    } else if (tag == token::AND)
-        | (tag == token::OR)
-        | (tag == token::XOR)
-        | (tag == token::EQUAL)
-        | (tag == token::UNEQUAL)
-    {
-        joins(tag, pair, width)
-    } else {
-        sums(tag, pair, width)
-    }
-}
-
-// The same of values of n and m lanes; how many lanes the result has.
-pub fn binary(tag: u32, pair: &mut [u32], n: usize, m: usize) -> usize
-    requires { ⌜ Meets n m (length (now pair)) ⌝ }
-    ensures { λ r. ⌜ (r ≡ meeting n m) × (take r (now (pair .exit)) ≡ lanewise (binary-of int (operator-of tag)) (take n (now (pair .entry))) (take m (drop register-words (now (pair .entry))))) ⌝ }
-{
-    let width = wide(n, m);
-    spread(&mut pair[..REGISTER], n, width);
-    spread(&mut pair[REGISTER..], m, width);
-    operate(tag, pair, width);
-    width
-}
-
-// A byte as a word.
-fn from_byte(byte: u8) -> u32
-    ensures { λ r. ⌜ (r ≡ byte) × (r < 256) ⌝ }
-{
-    byte as u32
-}
-
-// The number that four bytes hold.
-fn int_of(four: &[u8]) -> u32
-    requires { ⌜ length (now four) ≡ int-size ⌝ }
-    ensures { λ r. ⌜ r ≡ lane-of int (now (four .entry)) ⌝ }
-{
-    from_byte(four[0])
-        + from_byte(four[1]) * 256
-        + from_byte(four[2]) * 65536
-        + from_byte(four[3]) * 16777216
-}
-
-// Four bytes that hold a number.
-fn put_int(four: &mut [u8], x: u32)
-    requires { ⌜ length (now four) ≡ int-size ⌝ }
-    ensures { λ _. ⌜ now (four .exit) ≡ bytes-of int x ⌝ }
-{
-    four[0] = (x % 256) as u8;
-    four[1] = (x / 256 % 256) as u8;
-    four[2] = (x / 65536 % 256) as u8;
-    four[3] = (x / 16777216) as u8;
-}
-
-// The byte of a bool lane.
-fn truth_byte(x: u32) -> u8
-    ensures { λ r. ⌜ r ≡ bool-byte (truth x) ⌝ }
-{
-    if x == 0 { 0 } else { 1 }
-}
-
-// The lanes of an int variable, from its bytes.
-fn load_ints(lanes: &mut [u32], bytes: &[u8])
-    requires { ⌜ length (now bytes) ≡ whole int (length (now lanes)) ⌝ }
-    ensures { λ _. ⌜ now (lanes .exit) ≡ loaded int (length (now (lanes .entry))) (now (bytes .entry)) ⌝ }
-{
-    let mut i = 0;
-    while i < lanes.len() {
-        let at = i * INT;
-        let end = at + INT;
-        lanes[i] = int_of(&bytes[at..end]);
-        i += 1;
-    }
-}
-
-// The lanes of a bool variable, from its bytes.
-fn load_bools(lanes: &mut [u32], bytes: &[u8])
-    requires { ⌜ length (now bytes) ≡ whole bool (length (now lanes)) ⌝ }
-    ensures { λ _. ⌜ now (lanes .exit) ≡ loaded bool (length (now (lanes .entry))) (now (bytes .entry)) ⌝ }
-{
-    let mut i = 0;
-    while i < lanes.len() {
-        lanes[i] = bit(bytes[i] != 0);
-        i += 1;
-    }
-}
-
-// The lanes of a variable of a kind, from its bytes.
-pub fn load(kind: Kind, lanes: &mut [u32], bytes: &[u8])
-    requires { ⌜ length (now bytes) ≡ whole kind (length (now lanes)) ⌝ }
-    ensures { λ _. ⌜ now (lanes .exit) ≡ loaded kind (length (now (lanes .entry))) (now (bytes .entry)) ⌝ }
-{
-    match kind {
-        Kind::Int => load_ints(lanes, bytes),
-        Kind::Bool => load_bools(lanes, bytes),
-    }
-}
-
-// The active lanes go into the bytes of an int variable.
-fn store_ints(bytes: &mut [u8], mask: u64, lanes: &[u32])
-    requires { ⌜ Stores int (length (now bytes)) mask (length (now lanes)) ⌝ }
-    ensures { λ _. ⌜ now (bytes .exit) ≡ stored int (bits (length (now (lanes .entry))) mask) (now (lanes .entry)) (now (bytes .entry)) ⌝ }
-{
-    let mut left = mask;
-    while left != 0 {
-        let i = u64::trailing_zeros(left) as usize;
-        let at = i * INT;
-        let end = at + INT;
-        put_int(&mut bytes[at..end], lanes[i]);
-        left = left & (left - 1);
-    }
-}
-
-// The active lanes go into the bytes of a bool variable; a true is written as 1.
-fn store_bools(bytes: &mut [u8], mask: u64, lanes: &[u32])
-    requires { ⌜ Stores bool (length (now bytes)) mask (length (now lanes)) ⌝ }
-    ensures { λ _. ⌜ now (bytes .exit) ≡ stored bool (bits (length (now (lanes .entry))) mask) (now (lanes .entry)) (now (bytes .entry)) ⌝ }
-{
-    let mut left = mask;
-    while left != 0 {
-        let i = u64::trailing_zeros(left) as usize;
-        bytes[i] = truth_byte(lanes[i]);
-        left = left & (left - 1);
-    }
-}
-
-// The active lanes go into the bytes of one variable, of a kind.
-pub fn store(kind: Kind, bytes: &mut [u8], mask: u64, lanes: &[u32])
-    requires { ⌜ Stores kind (length (now bytes)) mask (length (now lanes)) ⌝ }
-    ensures { λ _. ⌜ now (bytes .exit) ≡ stored kind (bits (length (now (lanes .entry))) mask) (now (lanes .entry)) (now (bytes .entry)) ⌝ }
-{
-    match kind {
-        Kind::Int => store_ints(bytes, mask, lanes),
-        Kind::Bool => store_bools(bytes, mask, lanes),
-    }
+    lanes
 }
 
 // A mask as lanes.
-pub fn mask_lanes(lanes: &mut [u32], mask: u64)
-    requires { ⌜ length (now lanes) ≤ register-words ⌝ }
-    ensures { λ _. ⌜ now (lanes .exit) ≡ map lane-bit (bits (length (now (lanes .entry))) mask) ⌝ }
+pub fn mask_lanes(mask: u64) -> [u32; 16]
+    ensures { λ r. ⌜ r ≡ map lane-bit (bits chunk-lanes mask) ⌝ }
 {
-    let mut i = 0;
-    while i < lanes.len() {
-        lanes[i] = bit((mask >> i) % 2 == 1);
+    let mut r = [0u32; 16];
+    let mut i = 0usize;
+    while i < 16 {
+        r[i] = bit((mask >> i) & 1 == 1);
         i += 1;
+    }
+    r
+}
+
+// The lanes of the register at a word.
+pub fn get(registers: &[u32], at: usize) -> [u32; 16]
+    requires { ⌜ at + chunk-lanes ≤ length (now registers) ⌝ }
+    ensures { λ r. ⌜ r ≡ take chunk-lanes (drop at (now (registers .entry))) ⌝ }
+{
+    let mut r = [0u32; 16];
+    let mut i = 0usize;
+    while i < 16 {
+        r[i] = registers[at + i];
+        i += 1;
+    }
+    r
+}
+
+// Lanes into the register at a word.
+pub fn put(registers: &mut [u32], at: usize, x: [u32; 16])
+    requires { ⌜ at + chunk-lanes ≤ length (now registers) ⌝ }
+    ensures { λ _. ⌜ now (registers .exit) ≡ placed (now (registers .entry)) at chunk-lanes x ⌝ }
+{
+    let mut i = 0usize;
+    while i < 16 {
+        registers[at + i] = x[i];
+        i += 1;
+    }
+}
+
+// A lane's four bytes, where it is active.
+fn put_if(bytes: &mut [u8], active: bool, x: u32)
+    requires { ⌜ length (now bytes) ≡ int-size ⌝ }
+    ensures { λ _. ⌜ now (bytes .exit) ≡ stored int (active ∷ []) (x ∷ []) (now (bytes .entry)) ⌝ }
+{
+    if active {
+        put_int(bytes, x);
+    }
+}
+
+// Four lanes, each where it is active.
+fn some_of_four(bytes: &mut [u8], mask: u64, a: u32, b: u32, c: u32, d: u32)
+    requires { ⌜ length (now bytes) ≡ four-ints ⌝ }
+    ensures { λ _. ⌜ now (bytes .exit) ≡ stored int (bits 4 mask) (a ∷ b ∷ c ∷ d ∷ []) (now (bytes .entry)) ⌝ }
+{
+    put_if(&mut bytes[12..16], (mask >> 3) & 1 == 1, d);
+    put_if(&mut bytes[8..12], (mask >> 2) & 1 == 1, c);
+    put_if(&mut bytes[4..8], (mask >> 1) & 1 == 1, b);
+    put_if(&mut bytes[0..4], mask & 1 == 1, a);
+}
+
+// Four lanes that are all active.
+fn all_of_four(bytes: &mut [u8], a: u32, b: u32, c: u32, d: u32)
+    requires { ⌜ length (now bytes) ≡ four-ints ⌝ }
+    ensures { λ _. ⌜ now (bytes .exit) ≡ stored int (bits 4 15) (a ∷ b ∷ c ∷ d ∷ []) (now (bytes .entry)) ⌝ }
+{
+    put_if(&mut bytes[0..4], true, a);
+    put_if(&mut bytes[4..8], true, b);
+    put_if(&mut bytes[8..12], true, c);
+    put_if(&mut bytes[12..16], true, d);
+}
+
+// The active ones of four lanes, by the low four bits of a mask: the other bytes are not written.
+fn four(bytes: &mut [u8], mask: u64, a: u32, b: u32, c: u32, d: u32)
+    requires { ⌜ length (now bytes) ≡ four-ints ⌝ }
+    ensures { λ _. ⌜ now (bytes .exit) ≡ stored int (bits 4 mask) (a ∷ b ∷ c ∷ d ∷ []) (now (bytes .entry)) ⌝ }
+{
+    let active = mask & 15;
+    if active == 15 {
+        all_of_four(bytes, a, b, c, d);
+    } else if active != 0 {
+        some_of_four(bytes, mask, a, b, c, d);
+    }
+}
+
+// The active ones of a chunk of lanes go into the bytes of an int variable of so many.
+fn store16(bytes: &mut [u8], mask: u64, x: [u32; 16])
+    requires { ⌜ length (now bytes) ≡ whole int chunk-lanes ⌝ }
+    ensures { λ _. ⌜ now (bytes .exit) ≡ stored int (bits chunk-lanes mask) x (now (bytes .entry)) ⌝ }
+{
+    four(&mut bytes[48..64], mask >> 12, x[12], x[13], x[14], x[15]);
+    four(&mut bytes[32..48], mask >> 8, x[8], x[9], x[10], x[11]);
+    four(&mut bytes[16..32], mask >> 4, x[4], x[5], x[6], x[7]);
+    four(&mut bytes[0..16], mask, x[0], x[1], x[2], x[3]);
+}
+
+// The active ones of n lanes go into the bytes of an int variable.
+fn store_ints(bytes: &mut [u8], mask: u64, x: [u32; 16], n: usize)
+    requires { ⌜ (n ≤ chunk-lanes) × (length (now bytes) ≡ whole int n) ⌝ }
+    ensures { λ _. ⌜ now (bytes .exit) ≡ stored int (bits n mask) x (now (bytes .entry)) ⌝ }
+{
+    let mut i = 0usize;
+    while i < n {
+        let from = i * INT;
+        let to = from + INT;
+        put_if(&mut bytes[from..to], (mask >> i) & 1 == 1, x[i]);
+        i += 1;
+    }
+}
+
+// The active ones of n lanes go into the bytes of a bool variable; a true is written as 1.
+fn store_bools(bytes: &mut [u8], mask: u64, x: [u32; 16], n: usize)
+    requires { ⌜ (n ≤ chunk-lanes) × (length (now bytes) ≡ whole bool n) ⌝ }
+    ensures { λ _. ⌜ now (bytes .exit) ≡ stored bool (bits n mask) x (now (bytes .entry)) ⌝ }
+{
+    let mut i = 0usize;
+    while i < n {
+        if (mask >> i) & 1 == 1 {
+            bytes[i] = operators::truth_byte(x[i]);
+        }
+        i += 1;
+    }
+}
+
+// The active ones of n lanes go into the bytes of one variable, of a kind.
+pub fn store(kind: Kind, bytes: &mut [u8], mask: u64, x: [u32; 16], n: usize)
+    requires { ⌜ (n ≤ chunk-lanes) × (length (now bytes) ≡ whole kind n) ⌝ }
+    ensures { λ _. ⌜ now (bytes .exit) ≡ stored kind (bits n mask) x (now (bytes .entry)) ⌝ }
+{
+    match kind {
+        Kind::Int => {
+            if n == CHUNK {
+                store16(bytes, mask, x);
+            } else {
+                store_ints(bytes, mask, x, n);
+            }
+        }
+        Kind::Bool => store_bools(bytes, mask, x, n),
     }
 }
 
 // The mask of the lanes that are true.
-pub fn truths(lanes: &[u32]) -> u64
-    requires { ⌜ length (now lanes) ≤ register-words ⌝ }
-    ensures { λ r. ⌜ r ≡ number (map truth (now (lanes .entry))) ⌝ }
+pub fn truths(x: [u32; 16]) -> u64
+    ensures { λ r. ⌜ r ≡ number (map truth x) ⌝ }
 {
-    let mut mask = 0;
-    let mut i = lanes.len();
-    while 0 < i {
-        i -= 1;
-        mask = mask * 2;
-        if lanes[i] != 0 {
-            mask += 1;
-        }
+    let mut r = 0u32;
+    let mut i = 0usize;
+    while i < 16 {
+        r = r + (bit(x[i] != 0) << i);
+        i += 1;
     }
-    mask
-}
-
-// A mask of n lanes at a width.
-pub fn mask_across(mask: u64, n: usize, width: usize) -> u64
-    requires { ⌜ Spreads n width register-words ⌝ }
-    requires { ⌜ mask < 2 ^ n ⌝ }
-    ensures { λ r. ⌜ (bits width r ≡ across width (bits n mask)) × (r < 2 ^ width) ⌝ }
-{
-    let all = u64::MAX >> (REGISTER - width);
-    if n != 1 {
-        return mask & all;
-    }
-    if mask == 0 { 0 } else { all }
+    r as u64
 }

@@ -1,9 +1,1 @@
-pub mod Stacks
-pub mod Parts
-pub mod Loads
-pub mod Applied
-pub mod Waiting
-pub mod Units
-pub mod Declared
-pub mod Steps
-pub mod Evaluating
+pub mod Going

@@ -1,4 +1,0 @@
-pub mod Stack
-pub mod Variables
-pub mod Nodes
-pub mod Expression

@@ -1,27 +1,24 @@
 -- `blocks::mask_lanes` meets its contract. Assumes nothing.
-use Prim.Native.Nat.{_-_, _<_}
-use mathlib.Core.Bool.{false}
+use Prim.Native.Nat.{_-_}
+use mathlib.Core.Path.{refl, _∙_}
 use mathlib.Core.List.{map}
-use mathlib.Core.Path.{_∙_}
-use borrow.Author.Needs.{needs}
 use native.Mathlib.Omega.{arith}
-use lib.ListN.{length, length-map}
 use Rattle.meaning.specs.Memory.{bit}
 use Rattle.blocks.specs.Masks.{bits}
-use Rattle.blocks.proofs.Lists.{map-at}
-use Rattle.blocks.proofs.Filling.{Filling, start, more, whole as all}
-use Rattle.blocks.proofs.Masks.{length-bits, bits-at}
+use Rattle.blocks.proofs.Making.{Making, begun, one-made, made}
+use Rattle.blocks.proofs.Masks.{length-mask, mask-at}
+use borrow.Author.Needs.{needs}
 use Rattle.blocks.proofs.mask_lanes.Statement.{statement}
 use Rattle.blocks.proofs.mask_lanes.Tie as tie
 
 abbrev Inv-loop : tie.InvT-loop
-Inv-loop lanes₀ mask i₀ lanes i = Filling (map bit (bits (length lanes₀) mask)) lanes₀ lanes i
+Inv-loop mask r₀ i₀ r i = Making (map bit (bits 16 mask)) r i
 
 abbrev μ-loop : tie.MeasureT-loop
-μ-loop lanes₀ mask i₀ lanes i = length lanes₀ - i
+μ-loop mask r₀ i₀ r i = 16 - i
 
 loop-holds : tie.Need-loop-holds Inv-loop μ-loop
-loop-holds c = start _ _
+loop-holds c = begun _ _ (omega (arith, length-mask 16 (c .args .mask))) refl
 
 shr-bit : tie.Need-shr-bit Inv-loop μ-loop
 shr-bit c = search needs
@@ -29,11 +26,11 @@ shr-bit c = search needs
 bit-requires : tie.Need-bit-requires Inv-loop μ-loop
 bit-requires c κs = search needs
 
-mul-lanes : tie.Need-mul-lanes Inv-loop μ-loop
-mul-lanes c = search needs
+mul-r : tie.Need-mul-r Inv-loop μ-loop
+mul-r c = search needs
 
-slice-write-lanes : tie.Need-slice-write-lanes Inv-loop μ-loop
-slice-write-lanes c = search needs
+array-write-r : tie.Need-array-write-r Inv-loop μ-loop
+array-write-r c = search needs
 
 add-i : tie.Need-add-i Inv-loop μ-loop
 add-i c = search needs
@@ -42,19 +39,13 @@ loop-less : tie.Need-loop-less Inv-loop μ-loop
 loop-less c = search needs
 
 loop-again : tie.Need-loop-again Inv-loop μ-loop
-loop-again c = let n = length (c .before .before .before .before .args .lanes .now) in
-    let m = bits n (c .before .before .before .before .args .mask) in
-    let i = c .before .before .loop .i in
-    let h : i < n = omega (arith, c .before .before .loop .inv .size) in
-    let l : i < length m = rw (length-bits n (c .before .before .before .before .args .mask)) h in
-    more (c .before .before .loop .inv) _ (rw (length-map m bit) l) h (c .bit .ensures ∙ rw (map-at bit m i false l, bits-at n (c .before .before .before .before .args .mask) i h))
-
-same-length : tie.Need-same-length Inv-loop μ-loop
-same-length c = c .before .loop .inv .size
+loop-again c =
+    let mask = c .before .before .before .args .mask in
+    let taken = c .before .loop-test .taken in
+    one-made (c .before .before .loop .inv) _ (rw (length-mask 16 mask) taken) (c .bit .ensures ∙ mask-at 16 mask _ taken)
 
 returns : tie.Need-returns Inv-loop μ-loop
-returns c = let n = length (c .before .before .before .args .lanes .now) in
-    all (c .before .loop .inv) (length-map (bits n (c .before .before .before .args .mask)) bit ∙ length-bits n (c .before .before .before .args .mask)) (omega (arith, c .before .loop .inv .size))
+returns c = made (c .before .loop .inv) (length-mask 16 _) (c .loop-test .left)
 
 pub mask-lanes-spec : {M : Type 1} → statement M
 mask-lanes-spec =
@@ -65,10 +56,9 @@ mask-lanes-spec =
     loop-holds
     shr-bit
     bit-requires
-    mul-lanes
-    slice-write-lanes
+    mul-r
+    array-write-r
     add-i
     loop-less
     loop-again
-    same-length
     returns)

@@ -1,41 +1,36 @@
 -- `blocks::signs` meets its contract. Assumes nothing.
-use Prim.Native.Nat.{_-_, _<_}
-use mathlib.Core.List.{map}
-use mathlib.Core.Path.{_∙_, sym}
+use Prim.Native.Nat.{_-_}
+use mathlib.Core.Path.{refl, _∙_}
+use Rattle.meaning.specs.Running.{word-unary}
+use Rattle.blocks.proofs.Making.{Mapping, map-begun, one-mapped, mapped}
+use Rattle.blocks.proofs.Lists.{unary-words}
 use borrow.Author.Needs.{needs}
-use native.Mathlib.Omega.{arith}
-use lib.ListN.{length, length-map}
-use Rattle.meaning.specs.declared.Kind.the-variants.{Int as int}
-use Rattle.meaning.specs.Running.{unary-of}
-use Rattle.layout.specs.Words.{sign-of}
-use Rattle.blocks.proofs.Lists.{map-at}
-use Rattle.blocks.proofs.Filling.{Filling, start, more, whole, unwritten}
 use Rattle.blocks.proofs.signs.Statement.{statement}
 use Rattle.blocks.proofs.signs.Tie as tie
 
 abbrev Inv-loop : tie.InvT-loop
-Inv-loop tag lanes₀ i₀ lanes i = Filling (map (unary-of int (sign-of tag)) lanes₀) lanes₀ lanes i
+Inv-loop operator x r₀ i₀ r i = Mapping (word-unary operator) x r i
 
 abbrev μ-loop : tie.MeasureT-loop
-μ-loop tag lanes₀ i₀ lanes i = length lanes₀ - i
+μ-loop operator x r₀ i₀ r i = 16 - i
 
 loop-holds : tie.Need-loop-holds Inv-loop μ-loop
-loop-holds c = start _ _
+loop-holds c = map-begun _ _ _ (search needs) refl
 
 mul-sign : tie.Need-mul-sign Inv-loop μ-loop
 mul-sign c = search needs
 
-slice-read-sign : tie.Need-slice-read-sign Inv-loop μ-loop
-slice-read-sign c = search needs
+array-read-sign : tie.Need-array-read-sign Inv-loop μ-loop
+array-read-sign c = search needs
 
 sign-requires : tie.Need-sign-requires Inv-loop μ-loop
 sign-requires c κs = search needs
 
-mul-lanes : tie.Need-mul-lanes Inv-loop μ-loop
-mul-lanes c = search needs
+mul-r : tie.Need-mul-r Inv-loop μ-loop
+mul-r c = search needs
 
-slice-write-lanes : tie.Need-slice-write-lanes Inv-loop μ-loop
-slice-write-lanes c = search needs
+array-write-r : tie.Need-array-write-r Inv-loop μ-loop
+array-write-r c = search needs
 
 add-i : tie.Need-add-i Inv-loop μ-loop
 add-i c = search needs
@@ -44,16 +39,10 @@ loop-less : tie.Need-loop-less Inv-loop μ-loop
 loop-less c = search needs
 
 loop-again : tie.Need-loop-again Inv-loop μ-loop
-loop-again c = let l = c .before .before .before .loop in
-    let xs = c .before .before .before .before .before .args .lanes .now in
-    let h : l .i < length xs = omega (arith, l .inv .size) in
-    more (l .inv) _ (simp length-map h) h (c .sign .ensures ∙ rw (unwritten (l .inv) (l .i) (omega arith)) (sym (map-at _ xs _ 0 h)))
-
-same-length : tie.Need-same-length Inv-loop μ-loop
-same-length c = c .before .loop .inv .size
+loop-again c = one-mapped (c .before .before .loop .inv) _ (c .before .loop-test .taken) (c .sign .ensures)
 
 returns : tie.Need-returns Inv-loop μ-loop
-returns c = whole (c .before .loop .inv) (simp length-map) (omega (arith, c .before .loop .inv .size))
+returns c = mapped (c .before .loop .inv) (c .loop-test .left) ∙ unary-words (c .before .before .args .kind) (c .before .before .args .operator) (c .before .before .args .t3)
 
 pub signs-spec : {M : Type 1} → statement M
 signs-spec =
@@ -63,12 +52,11 @@ signs-spec =
     μ-loop
     loop-holds
     mul-sign
-    slice-read-sign
+    array-read-sign
     sign-requires
-    mul-lanes
-    slice-write-lanes
+    mul-r
+    array-write-r
     add-i
     loop-less
     loop-again
-    same-length
     returns)

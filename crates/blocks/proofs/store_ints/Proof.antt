@@ -1,58 +1,61 @@
 -- `blocks::store_ints` meets its contract. Assumes nothing.
-use borrow.Author.Needs.{needs}
+use Prim.Native.Nat.{_-_}
 use native.Mathlib.Omega.{arith}
 use Rattle.meaning.specs.declared.Kind.the-variants.{Int as int}
-use Rattle.meaning.specs.Memory.{size}
-use Rattle.blocks.proofs.Bytes.{int-placed, length-int-part}
-use Rattle.blocks.proofs.Stores.{Storing, storing, lane-of-lowest, lane-room, falls, one-stored, all-stored}
+use Rattle.meaning.specs.Memory.{size, whole}
+use Rattle.blocks.proofs.Stores.{Storing, store-begun, lane-room, one-stored, all-stored, length-int, int-stored}
+use borrow.Author.Needs.{needs}
 use Rattle.blocks.proofs.store_ints.Statement.{statement}
 use Rattle.blocks.proofs.store_ints.Tie as tie
 
 abbrev Inv-loop : tie.InvT-loop
-Inv-loop bytes₀ mask lanes left₀ bytes left = Storing int mask lanes bytes₀ bytes left
+Inv-loop bytes₀ mask n x i₀ bytes i = Storing int mask n x bytes₀ bytes i
 
 abbrev μ-loop : tie.MeasureT-loop
-μ-loop bytes₀ mask lanes left₀ bytes left = left
+μ-loop bytes₀ mask n x i₀ bytes i = n - i
 
 loop-holds : tie.Need-loop-holds Inv-loop μ-loop
-loop-holds c = storing _ _ (c .before .before .pre)
+unfolding whole
+loop-holds c = store-begun _ _ _ _ (omega arith) (c .before .pre .1)
 
-cast-i : tie.Need-cast-i Inv-loop μ-loop
-cast-i c = omega (arith, lane-of-lowest (c .before .loop .inv) (c .loop-test .taken), c .before .loop .inv .few)
+mul-from : tie.Need-mul-from Inv-loop μ-loop
+mul-from c = search needs
 
-mul-at : tie.Need-mul-at Inv-loop μ-loop
-mul-at c = omega (arith, lane-of-lowest (c .before .loop .inv) (c .loop-test .taken), c .before .loop .inv .few)
+add-to : tie.Need-add-to Inv-loop μ-loop
+add-to c = search needs
 
-add-end : tie.Need-add-end Inv-loop μ-loop
-add-end c = omega (arith, lane-of-lowest (c .before .loop .inv) (c .loop-test .taken), c .before .loop .inv .few)
+sub-put-if : tie.Need-sub-put-if Inv-loop μ-loop
+sub-put-if c = search needs
 
-sub-put-int : tie.Need-sub-put-int Inv-loop μ-loop
-sub-put-int c = search needs
+part-put-if-start : tie.Need-part-put-if-start Inv-loop μ-loop
+part-put-if-start c = search needs
 
-part-put-int-start : tie.Need-part-put-int-start Inv-loop μ-loop
-part-put-int-start c = search needs
-
-part-put-int-end : tie.Need-part-put-int-end Inv-loop μ-loop
+part-put-if-end : tie.Need-part-put-if-end Inv-loop μ-loop
 unfolding size
-part-put-int-end c = lane-room (c .before .loop .inv) (c .loop-test .taken)
+part-put-if-end c = lane-room (c .before .loop .inv) (c .loop-test .taken)
 
-mul-put-int : tie.Need-mul-put-int Inv-loop μ-loop
-mul-put-int c = omega (arith, lane-of-lowest (c .before .before .loop .inv) (c .before .loop-test .taken), c .before .before .loop .inv .few)
+shr-put-if : tie.Need-shr-put-if Inv-loop μ-loop
+shr-put-if c = search needs
 
-shared-slice-read-put-int : tie.Need-shared-slice-read-put-int Inv-loop μ-loop
-shared-slice-read-put-int c = lane-of-lowest (c .before .before .before .loop .inv) (c .before .before .loop-test .taken)
+mul-put-if : tie.Need-mul-put-if Inv-loop μ-loop
+mul-put-if c = search needs
 
-put-int-requires : tie.Need-put-int-requires Inv-loop μ-loop
-put-int-requires c κs = length-int-part (c .before .before .before .loop .bytes) _ (lane-room (c .before .before .before .loop .inv) (c .before .before .loop-test .taken))
+array-read-put-if : tie.Need-array-read-put-if Inv-loop μ-loop
+array-read-put-if c = search needs
 
-sub-left : tie.Need-sub-left Inv-loop μ-loop
-sub-left c = search needs
+put-if-requires : tie.Need-put-if-requires Inv-loop μ-loop
+put-if-requires c κs = length-int (c .before .before .loop .bytes) _ (lane-room (c .before .before .loop .inv) (c .before .loop-test .taken))
+
+add-i : tie.Need-add-i Inv-loop μ-loop
+add-i c = search needs
 
 loop-less : tie.Need-loop-less Inv-loop μ-loop
-loop-less c = falls (c .before .before .before .before .before .before .loop .inv) (c .before .before .before .before .before .loop-test .taken)
+loop-less c = search needs
 
 loop-again : tie.Need-loop-again Inv-loop μ-loop
-loop-again c = one-stored (c .before .before .before .before .before .before .loop .inv) (c .before .before .before .before .before .loop-test .taken) (int-placed (c .before .before .before .before .before .before .loop .bytes) _ _ (c .before .before .put-int .ensures))
+loop-again c =
+    let turn = c .before .before .before .before in
+    one-stored (turn .before .loop .inv) (turn .loop-test .taken) (int-stored (turn .before .loop .bytes) _ _ _ (c .before .before .put-if .ensures))
 
 same-length : tie.Need-same-length Inv-loop μ-loop
 same-length c = c .before .loop .inv .kept
@@ -67,16 +70,16 @@ store-ints-spec =
     Inv-loop
     μ-loop
     loop-holds
-    cast-i
-    mul-at
-    add-end
-    sub-put-int
-    part-put-int-start
-    part-put-int-end
-    mul-put-int
-    shared-slice-read-put-int
-    put-int-requires
-    sub-left
+    mul-from
+    add-to
+    sub-put-if
+    part-put-if-start
+    part-put-if-end
+    shr-put-if
+    mul-put-if
+    array-read-put-if
+    put-if-requires
+    add-i
     loop-less
     loop-again
     same-length

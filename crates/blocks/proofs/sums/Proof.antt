@@ -1,45 +1,42 @@
 -- `blocks::sums` meets its contract. Assumes nothing.
 use Prim.Native.Nat.{_-_}
+use mathlib.Core.Path.{refl}
+use Rattle.meaning.specs.Running.{word-binary}
+use Rattle.operators.specs.Operators.{Sum}
+use Rattle.blocks.proofs.Making.{Zipping, zip-begun, one-zipped, zipped}
 use borrow.Author.Needs.{needs}
-use Rattle.meaning.specs.declared.Kind.the-variants.{Int as int}
-use Rattle.meaning.specs.Running.{binary-of}
-use Rattle.blocks.specs.Operators.{sum-of}
-use Rattle.blocks.proofs.Pairs.{Pairing, pair-start, pair-more, pair-done}
 use Rattle.blocks.proofs.sums.Statement.{statement}
 use Rattle.blocks.proofs.sums.Tie as tie
 
 abbrev Inv-loop : tie.InvT-loop
-Inv-loop tag pair₀ width i₀ pair i = Pairing (binary-of int (sum-of tag)) width pair₀ pair i
+Inv-loop operator x y r₀ i₀ r i = Sum operator × Zipping (word-binary operator) x y r i
 
 abbrev μ-loop : tie.MeasureT-loop
-μ-loop tag pair₀ width i₀ pair i = width - i
+μ-loop operator x y r₀ i₀ r i = 16 - i
 
 loop-holds : tie.Need-loop-holds Inv-loop μ-loop
-loop-holds c = pair-start _ _ _ (c .before .pre .0) (c .before .pre .1)
+loop-holds c = (c .pre, zip-begun _ _ _ _ (search needs) (search needs) refl)
 
 mul-sum : tie.Need-mul-sum Inv-loop μ-loop
 mul-sum c = search needs
 
-slice-read-sum : tie.Need-slice-read-sum Inv-loop μ-loop
-slice-read-sum c = search needs
-
-add-sum : tie.Need-add-sum Inv-loop μ-loop
-add-sum c = search needs
+array-read-sum : tie.Need-array-read-sum Inv-loop μ-loop
+array-read-sum c = search needs
 
 mul-sum-2 : tie.Need-mul-sum-2 Inv-loop μ-loop
 mul-sum-2 c = search needs
 
-slice-read-sum-2 : tie.Need-slice-read-sum-2 Inv-loop μ-loop
-slice-read-sum-2 c = search needs
+array-read-sum-2 : tie.Need-array-read-sum-2 Inv-loop μ-loop
+array-read-sum-2 c = search needs
 
 sum-requires : tie.Need-sum-requires Inv-loop μ-loop
-sum-requires c κs = search needs
+sum-requires c κs = c .before .loop .inv .0
 
-mul-pair : tie.Need-mul-pair Inv-loop μ-loop
-mul-pair c = search needs
+mul-r : tie.Need-mul-r Inv-loop μ-loop
+mul-r c = search needs
 
-slice-write-pair : tie.Need-slice-write-pair Inv-loop μ-loop
-slice-write-pair c = search needs
+array-write-r : tie.Need-array-write-r Inv-loop μ-loop
+array-write-r c = search needs
 
 add-i : tie.Need-add-i Inv-loop μ-loop
 add-i c = search needs
@@ -48,13 +45,10 @@ loop-less : tie.Need-loop-less Inv-loop μ-loop
 loop-less c = search needs
 
 loop-again : tie.Need-loop-again Inv-loop μ-loop
-loop-again c = pair-more (c .before .before .before .before .loop .inv) (c .before .before .before .loop-test .taken) (c .sum .ensures)
-
-same-length : tie.Need-same-length Inv-loop μ-loop
-same-length c = c .before .loop .inv .filling .size
+loop-again c = (c .before .before .loop .inv .0, one-zipped (c .before .before .loop .inv .1) _ (c .before .loop-test .taken) (c .sum .ensures))
 
 returns : tie.Need-returns Inv-loop μ-loop
-returns c = pair-done (c .before .loop .inv) (c .loop-test .left)
+returns c = zipped (c .before .loop .inv .1) (c .loop-test .left)
 
 pub sums-spec : {M : Type 1} → statement M
 sums-spec =
@@ -64,15 +58,13 @@ sums-spec =
     μ-loop
     loop-holds
     mul-sum
-    slice-read-sum
-    add-sum
+    array-read-sum
     mul-sum-2
-    slice-read-sum-2
+    array-read-sum-2
     sum-requires
-    mul-pair
-    slice-write-pair
+    mul-r
+    array-write-r
     add-i
     loop-less
     loop-again
-    same-length
     returns)

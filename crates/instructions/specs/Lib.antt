@@ -1,0 +1,4 @@
+pub mod Instructions
+pub mod Lower
+pub mod Standing
+pub mod Plan
