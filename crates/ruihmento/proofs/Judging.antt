@@ -1,15 +1,17 @@
 -- What the verdict of a text makes of the judge's answer.
-use Prim.Native.Nat.{ℕ, _≤_, _<_}
-use mathlib.Core.Path.{_≡_, refl, sym, _∙_}
+use Prim.Native.Nat.{ℕ, _*_, _-_, _≤_, _<_}
+use mathlib.Core.Path.{_≡_, refl, sym}
 use mathlib.Core.List.{List, [], _∷_}
 use native.Mathlib.Omega.{arith}
-use lib.ListN.{length}
+use lib.ListN.{length, take}
+use lib.Seq.{length-take-le}
 use Rattle.meaning.specs.declared.Refusal.{Refusal}
 use Rattle.meaning.specs.Codes.{ok, refused}
 use Rattle.meaning.specs.Memory.{need}
-use Rattle.meaning.specs.Services.{answer, numbers, with-numbers, judged, verdict, judge, judge-call, Kept}
+use Rattle.meaning.specs.Services.{answer, numbers, with-numbers, judged, verdict, judge, judge-call, answer-bytes, Kept}
 use Rattle.layout.specs.declared.Stage.{Stage}
 use Rattle.layout.specs.declared.Stage.the-variants.{Done, Refused}
+use Rattle.layout.specs.Tokens.{token-words}
 use Rattle.layout.specs.Sizes.{table-room}
 use Rattle.layout.specs.Table.{entries}
 use Rattle.laws.specs.Sound.{stack-limit}
@@ -17,7 +19,7 @@ use Rattle.laws.proofs.Accepted.{refused-low}
 use Rattle.numbers.specs.Sizes.{four-bytes}
 use Rattle.typing.specs.Answers.{program-out, Accepts}
 use Rattle.judge.specs.Contract.{Judging-room, Judges-text}
-use Rattle.ruihmento.specs.Contract.{Service-room, with-refusal, Tellable}
+use Rattle.ruihmento.specs.Contract.{Text-room, Running-room, with-refusal, Tellable, Refusable}
 use Rattle.ruihmento.proofs.Slices.{not-called, kept}
 
 -- A slice without room.
@@ -35,7 +37,7 @@ pub known : {text table words : List ℕ} {r q : Stage} → Judges-text text tab
 known g e = rw e at g
 
 -- With a table and a stack of their greatest sizes the text can be judged.
-pub judging-room : {text tree code slice table stack : List ℕ} → Service-room text tree code slice → length table ≡ table-room → length stack ≡ 464 → Judging-room text tree table code stack
+pub judging-room : {text tree code table stack : List ℕ} → Text-room text tree code → length table ≡ table-room → length stack ≡ 696 → Judging-room text tree table code stack
 unfolding stack-limit
 judging-room g t s = record {
   tokens-room = g .tokens-room;
@@ -45,6 +47,19 @@ judging-room g t s = record {
   rows-room = omega arith;
   stack-room = omega arith;
 }
+
+-- The same where the tree has the first words of the plan's.
+module _ {text code planned : List ℕ} (g : Running-room text code planned) where
+  pub tree-counted : length code - token-words ≡ length (take (length code - token-words) planned)
+  tree-counted = sym (length-take-le (length code - token-words) planned (omega (arith, g .plan-room)))
+
+  pub judging-shared : {table stack : List ℕ} → length table ≡ table-room → length stack ≡ 696 → Judging-room text (take (length code - token-words) planned) table code stack
+  judging-shared t s = judging-room (record {
+    tokens-room = g .tokens-room;
+    tree-fits = omega (arith, tree-counted, g .tree-fits);
+    few = omega (arith, tree-counted, g .few);
+    code-room = omega (arith, tree-counted);
+  }) t s
 
 module _ {text table words : List ℕ} where
   -- A text that is refused.
@@ -60,6 +75,9 @@ module _ {text table words : List ℕ} where
   -- A refusal can be told: its place is one of the longest text's.
   pub tellable : {r : Stage} → Judges-text text table words r → (slice : List ℕ) → four-bytes ≤ length slice → Tellable r slice
   tellable g slice h = record { room = h; low = λ c p e. refused-low text (is-refused (known g e)) }
+
+  pub refusable : {r : Stage} → Judges-text text table words r → (count : ℕ) (answers : List ℕ) → count * answer-bytes ≤ length answers → Refusable r count answers
+  refusable g count answers h = record { room = h; low = λ c p e. refused-low text (is-refused (known g e)) }
 
   -- A text that is accepted.
   module _ {n z : ℕ} (g : Judges-text text table words (Done n z)) where

@@ -11,7 +11,7 @@ use Rattle.meaning.specs.Codes.{code}
 use Rattle.meaning.specs.Memory.{little-endian}
 use Rattle.meaning.specs.Services.{Answer, answer, in-a-row, numbers, with-numbers, called, Kept}
 use Rattle.layout.specs.declared.Stage.{Stage}
-use Rattle.layout.specs.declared.Stage.the-variants.{Done, Refused}
+use Rattle.layout.specs.declared.Stage.the-variants.{Refused}
 use Rattle.numbers.specs.Sizes.{four-bytes}
 use Rattle.ruihmento.specs.Contract.{with-refusal, Leaves}
 

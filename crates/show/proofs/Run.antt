@@ -5,10 +5,10 @@ use mathlib.Core.List.{List}
 use native.Mathlib.Omega.{arith}
 use lib.ListN.{length, length-take}
 use Rattle.meaning.specs.Memory.{Memory}
-use Rattle.meaning.specs.Services.{Answer, answer, run, run-call, Kept}
+use Rattle.meaning.specs.Services.{Answer, answer, answer-bytes, run, run-call, Kept}
 use Rattle.laws.specs.Words.{Words}
 use Rattle.laws.proofs.Services.{run-words}
-use Rattle.promises.specs.Promise.{answer-bytes, number-at, numbers-in}
+use Rattle.promises.specs.Promise.{number-at, numbers-in}
 use Rattle.promises.proofs.Demands.{run-delivers, run-reads}
 use Rattle.print.specs.Printed.{Printed}
 use Rattle.print.specs.Shown.{held, shown}

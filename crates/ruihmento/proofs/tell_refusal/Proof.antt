@@ -1,5 +1,4 @@
 -- `ruihmento::tell_refusal` meets its contract. Assumes nothing.
-use mathlib.Core.Path.{refl}
 use native.Mathlib.Omega.{arith}
 use Rattle.ruihmento.specs.Contract.{with-refusal}
 use Rattle.ruihmento.proofs.Slices.{told}
