@@ -3,17 +3,20 @@ use mathlib.Core.Path.{_≡_, refl}
 use mathlib.Core.List.{List, [], _∷_, _++_, map}
 use Prim.Native.Nat.{ℕ}
 use Prim.Native.String.{String}
+use native.Mathlib.Omega.{arith}
 use lib.ListN.{replicate}
 use Rattle.meaning.specs.Codes.{the-judge-gives, only-a-run-gives}
 use Rattle.meaning.specs.Tokens.{bytes, lexed}
-use Rattle.meaning.specs.Memory.{Memory, little-endian, need, declared}
+use Rattle.meaning.specs.Memory.{Memory, little-endian, declared}
 use Rattle.meaning.specs.Services.{answer, judged, judge, run}
 use Rattle.meaning.specs.Table.{Row, _over_for_gives_leaves_, ints, judged-as, found, expected}
 use Rattle.meaning.specs.Errors.{routine, samples}
 use Rattle.lane.specs.Narrow.{narrow}
 use Rattle.lane.specs.Lane.{scalar-free, variables-in, lane-bytes, Follows-lane}
+use Rattle.lane.specs.Demand.{Of-one-length, Lane-by-itself}
 use Rattle.lane.proofs.Theorem.{one-lane}
-use Rattle.lane.proofs.Instances.{all-below, has-lane?, holds-lane?, Asked, asked?, asked, follows?, not-followed, instance}
+use Rattle.lane.proofs.Demand.{demand-three}
+use Rattle.lane.proofs.Instances.{all-below, has-lane?, holds-lane?, Asked, asked?, asked, follows?, not-followed, instance, one-length?, of-one-length?, of-one-length}
 
 -- The routine narrowed.
 unfoldable pub narrowed : String
@@ -51,8 +54,17 @@ unfoldable pub third-memory : Memory
 third-memory = lane-of-samples 1 25 untouched
 
 pub third-follows : Follows-lane 2 (bytes routine) 1000 full-memory third-memory
-unfolding asked? has-lane? holds-lane? all-below scalar-free narrow variables-in lane-bytes full-memory third-memory lane-of-samples untouched samples ints routine bytes little-endian lexed judged run answer need declared
+unfolding asked? has-lane? holds-lane? all-below scalar-free narrow variables-in lane-bytes full-memory third-memory lane-of-samples untouched samples ints routine bytes little-endian lexed judged run answer declared
 third-follows = instance (bytes routine) 2 1000 full-memory third-memory one-lane tt tt
+
+-- The same by demand 3: every hypothesis is met there too, of the four lanes of the routine's blocks.
+pub routine-of-four : Of-one-length 4 (bytes routine)
+unfolding of-one-length? one-length? all-below scalar-free variables-in routine bytes lexed judged judge answer declared
+routine-of-four = of-one-length 4 (bytes routine) tt
+
+pub third-by-itself : Lane-by-itself 2 (bytes routine) 1000 full-memory
+unfolding full-memory samples ints routine bytes little-endian run answer
+third-by-itself = demand-three 4 (bytes routine) routine-of-four .one-lane 1000 full-memory (record { code = refl }) 2 (omega arith)
 
 -- With `scalar` the conclusion fails: here lane 0 alone takes the branch, and `scalar` writes both lanes of `a`.
 unfoldable pub leaking : String
@@ -74,5 +86,5 @@ second-run = refl
 
 -- Every hypothesis but the one on `scalar`, and not the conclusion.
 pub scalar-breaks : Asked (bytes leaking) 1 1000 (both-lanes 7 7) (second-lane 7) × (Follows-lane 1 (bytes leaking) 1000 (both-lanes 7 7) (second-lane 7) → ⊥)
-unfolding asked? follows? has-lane? holds-lane? all-below narrow variables-in lane-bytes both-lanes second-lane ints leaking bytes little-endian lexed judged run answer need declared
+unfolding asked? follows? has-lane? holds-lane? all-below narrow variables-in lane-bytes both-lanes second-lane ints leaking bytes little-endian lexed judged run answer declared
 scalar-breaks = (asked (bytes leaking) 1 1000 (both-lanes 7 7) (second-lane 7) tt, not-followed (bytes leaking) 1 1000 (both-lanes 7 7) (second-lane 7) tt)

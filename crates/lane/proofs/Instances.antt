@@ -1,18 +1,19 @@
--- One text, one lane and one pair of memories: what One-lane asks of them and what it says are computed tests. So an instance is proved
--- by computation, and so is a refutation, of a definition that breaks it.
+-- One text, one lane and one pair of memories: what One-lane and demand 3 ask of them and say are computed tests. So an instance is
+-- proved by computation, and so is a refutation, of a definition that breaks them.
 use mathlib.Core.Path.{_≡_, refl}
-use mathlib.Core.Bool.{Bool, true, not, _&&_}
+use mathlib.Core.Bool.{Bool, true, not, _&&_, _||_}
 use mathlib.Core.List.{List, [], _∷_}
-use Prim.Native.Nat.{ℕ, zero, suc, _≤_, _<_}
+use Prim.Native.Nat.{ℕ, zero, suc, _<_}
 use native.Mathlib.Omega.{arith}
-use lib.Dec.{T, T-not, eqb, leb, eqb→eq, eqb-refl, leb→le}
+use lib.Dec.{T, T-not, eqb, leb, ltb, eqb→eq, eqb-refl, leb→le, ltb→lt}
 use lib.ListN.{length}
 use Rattle.meaning.specs.Tokens.{starts, equal}
-use Rattle.meaning.specs.Memory.{Memory, declared, need}
-use Rattle.meaning.specs.Services.{run}
+use Rattle.meaning.specs.Memory.{Memory, declared}
+use Rattle.meaning.specs.Services.{judge, run}
 use Rattle.lane.specs.Narrow.{narrow}
 use Rattle.lane.specs.Lane.{scalar-free, variables, lane-bytes, reaches, Has-lane, Holds-lane, Follows-lane, One-lane}
-use Rattle.lane.proofs.Tests.{and-l, and-r, and-both, Order, below, same, above, order}
+use Rattle.lane.specs.Demand.{One-length, Of-one-length, Demand-three}
+use Rattle.lane.proofs.Tests.{and-l, and-r, and-both, or-cases, Order, below, same, above, order}
 
 -- Two lists of bytes are the same where the definition finds them equal.
 starts-same : (a b : List ℕ) → length a ≡ length b → T (starts a b) → a ≡ b
@@ -80,18 +81,16 @@ module _ (text : List ℕ) (i budget : ℕ) (M N : Memory) where
   pub record Asked : Type 0 where
     pub has : Has-lane i text
     pub ended : (run text M budget) .0 .code ≡ 0
-    pub room : need (variables (narrow text)) ≤ length N
     pub holds : Holds-lane i text M N
 
   unfoldable pub asked? : Bool
-  asked? = has-lane? i text && (eqb ((run text M budget) .0 .code) 0 && (leb (need (variables (narrow text))) (length N) && holds-lane? i text M N))
+  asked? = has-lane? i text && (eqb ((run text M budget) .0 .code) 0 && holds-lane? i text M N)
 
   pub asked : T asked? → Asked
   unfolding asked?
   asked t = record {
     has = has-lane i text (search and-l);
     ended = eqb→eq ((run text M budget) .0 .code) 0 (search (and-l, and-r));
-    room = leb→le (need (variables (narrow text))) (length N) (search (and-l, and-r));
     holds = holds-lane i text M N (search (and-l, and-r));
   }
 
@@ -103,9 +102,38 @@ module _ (text : List ℕ) (i budget : ℕ) (M N : Memory) where
   unfolding follows?
   not-followed t f = T-not follows? t (lane-held i text ((run text M budget) .1) ((run (narrow text) N budget) .1) (f .holds))
 
-  -- The instance, and a refutation of One-lane by it.
+  -- The instance of One-lane.
   pub instance : One-lane → T (scalar-free text) → T asked? → Follows-lane i text budget M N
-  instance one free t = let a = asked t in one text i budget M N free (a .has) (a .ended) (a .room) (a .holds)
+  instance one free t = let a = asked t in one text i budget M N free (a .has) (a .ended) (a .holds)
 
-  pub refutes : T (scalar-free text) → T asked? → T (not follows?) → One-lane → ⊥
-  refutes free t u one = not-followed u (instance one free t)
+-- What demand 3 asks of a text whose blocks longer than one all have n lanes.
+module _ (n : ℕ) (text : List ℕ) where
+  unfoldable pub one-length? : Bool
+  one-length? = all-below (length (variables text)) (λ x. leb ((declared (variables text) x) .lanes) 1 || eqb ((declared (variables text) x) .lanes) n)
+
+  one-length : T one-length? → One-length n text
+  unfolding one-length?
+  one-length t = record { each = λ x l. one-of ((declared (variables text) x) .lanes) (each-below (length (variables text)) _ t x l) }
+    where
+      one-of : (m : ℕ) → T (leb m 1 || eqb m n) → 1 < m → m ≡ n
+      one-of m t more = or-cases (leb m 1) (eqb m n) (λ h. absurd (omega (arith, leb→le m 1 h))) (eqb→eq m n) t
+
+  unfoldable pub of-one-length? : Bool
+  of-one-length? = eqb ((judge text) .code) 0 && (scalar-free text && one-length?)
+
+  pub of-one-length : T of-one-length? → Of-one-length n text
+  unfolding of-one-length?
+  of-one-length t = record { accepted = eqb→eq ((judge text) .code) 0 (search and-l); no-scalar = search (and-l, and-r); one-length = one-length (search (and-l, and-r)) }
+
+-- The instance of demand 3; and a refutation, of One-lane and of demand 3.
+module _ (n : ℕ) (text : List ℕ) (i budget : ℕ) (M N : Memory) (of : T (of-one-length? n text)) where
+  pub lane-instance : Demand-three → T (ltb i n) → T (asked? text i budget M N) → Follows-lane i text budget M N
+  lane-instance demand l t =
+      let a = asked text i budget M N t in
+      demand n text (of-one-length n text of) .one-lane budget M (record { code = a .ended }) i (ltb→lt i n l) .for-every N (a .holds)
+
+  pub refutes : T (ltb i n) → T (asked? text i budget M N) → T (not (follows? text i budget M N)) → (One-lane → ⊥) × (Demand-three → ⊥)
+  refutes l t u = (
+    λ one. not-followed text i budget M N u (instance text i budget M N one (of-one-length n text of .no-scalar) t),
+    λ demand. not-followed text i budget M N u (lane-instance demand l t),
+  )

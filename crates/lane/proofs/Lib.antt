@@ -15,6 +15,7 @@ pub mod Scalars
 pub mod Service
 pub mod Fill
 pub mod Theorem
+pub mod Demand
 pub mod Laws
 pub mod Instances
 pub mod Examples

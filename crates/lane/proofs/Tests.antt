@@ -24,10 +24,6 @@ pub or-cases : {X : Type 0} (a b : Bool) → (T a → X) → (T b → X) → T (
 or-cases true b f g t = f tt
 or-cases false b f g t = g t
 
-pub or-l : (a b : Bool) → T a → T (a || b)
-or-l true b t = tt
-or-l false b t = absurd t
-
 pub or-r : (a b : Bool) → T b → T (a || b)
 or-r true b t = tt
 or-r false b t = t

@@ -21,7 +21,7 @@ use Rattle.lane.proofs.Programs.{lanes-of, no-alone}
 use Rattle.lane.proofs.Declared.{Paired}
 use Rattle.lane.proofs.Follow.{Followed, one-true, run-follows}
 use Rattle.lane.proofs.Memories.{Agree, memory-holds}
-use Rattle.lane.proofs.Fill.{narrow-start}
+use Rattle.lane.proofs.Fill.{narrow-start, held-room}
 use Rattle.lane.proofs.Service.{ran, Ended, Ran-well, ran-well, ran-well-as, ended-later, executed-is, run-is, judged-narrow}
 
 -- A scalar, or a block of more than i lanes, has lane i.
@@ -65,11 +65,11 @@ module _ (text : List ℕ) (P : Program) (Γ : Declarations) (e : judged text �
 
 -- What a text's run and a narrow run leave, from what they are.
 module _ (text : List ℕ) (i budget : ℕ) (M N : Memory) (P : Program) (Γ Δ : Declarations) (e : judged text ≡ ok P Γ) (e′ : judged (narrow text) ≡ ok P Δ) where
-  starts : Ended P Γ budget M → need (variables (narrow text)) ≤ length N → Holds-lane i text M N → Agree i Γ Δ M N
-  starts w room holds = record {
-    full = record { long = w .room; each = λ x l. sym (rw (variables-are (narrow text) P Δ e′, variables-are text P Γ e) at (holds .each x (rw (variables-are text P Γ e) l))) };
-    short = rw (variables-are (narrow text) P Δ e′) at room;
-  }
+  starts : Paired text Γ Δ → ((x : ℕ) → x < length Γ → Reaches i (lanes-of Γ x)) → need Γ ≤ length M → Holds-lane i text M N → Agree i Γ Δ M N
+  starts pair all room holds = record { full = record { long = room; each = each }; short = held-room text i Γ Δ pair all M room N each }
+    where
+      each : (x : ℕ) → x < length Γ → lane-bytes i (declared Γ x) M ≡ lane-bytes i (declared Δ x) N
+      each x l = sym (rw (variables-are (narrow text) P Δ e′, variables-are text P Γ e) at (holds .each x (rw (variables-are text P Γ e) l)))
 
   leaves : (w : Ended P Γ budget M) → Followed-by i P Γ Δ budget M N w → Follows-lane i text budget M N
   unfolding answer
@@ -83,7 +83,7 @@ module _ (text : List ℕ) (i budget : ℕ) (M N : Memory) (P : Program) (Γ Δ 
       }
 
 pub one-lane : One-lane
-one-lane text i budget M N free has code room holds = go (ran-well text M budget code)
+one-lane text i budget M N free has code holds = go (ran-well text M budget code)
   where
     go : Ran-well (judged text) budget M → Follows-lane i text budget M N
     go r =
@@ -92,9 +92,10 @@ one-lane text i budget M N free has code room holds = go (ran-well text M budget
         let e = r .accepted in
         let w = r .ended-well in
         let n = judged-narrow text P Γ e in
+        let all = all-reach text P Γ e i has in
         leaves text i budget M N P Γ (n .table) e (n .accepted) w
-        (follow-program text i P Γ (n .table) (n .paired) (n .fits) (n .free free) (all-reach text P Γ e i has) budget M N w
-        (starts text i budget M N P Γ (n .table) e (n .accepted) w room holds))
+        (follow-program text i P Γ (n .table) (n .paired) (n .fits) (n .free free) all budget M N w
+        (starts text i budget M N P Γ (n .table) e (n .accepted) (n .paired) all (w .room) holds))
 
 -- Two runs of one program over one memory that both end, end alike.
 same-end : (P : Program) (Δ : Declarations) (N : Memory) (b c : ℕ) (w : Ended P Δ b N) (u : Ended P Δ c N) → w .end ≡ u .end
@@ -123,8 +124,8 @@ no-leak text i b b′ M M′ free has code code′ alike = go (ran-well text M b
         let Δ = n .table in
         let all = all-reach text P Γ e i has in
         let start = narrow-start text i Γ Δ (n .paired) all M (w .room) in
-        let N = start .0 in
-        let a : Agree i Γ Δ M N = start .1 in
+        let N = start .memory in
+        let a : Agree i Γ Δ M N = start .agree in
         let a′ : Agree i Γ Δ M′ N = record {
           full = record { long = w′ .room; each = λ x l. sym (rw (variables-are text P Γ e) at (alike .each x (rw (variables-are text P Γ e) l))) ∙ a .full .each x l };
           short = a .short;

@@ -7,7 +7,7 @@ use lib.Dec.{T, eqb, ltb}
 use lib.ListN.{length, take, drop}
 use Rattle.meaning.specs.Codes.{Out, ok, refused, _among_}
 use Rattle.meaning.specs.Tokens.{Token, the, lexed}
-use Rattle.meaning.specs.Memory.{Memory, Declared, Declarations, declared, size, need}
+use Rattle.meaning.specs.Memory.{Memory, Declared, Declarations, declared, size}
 use Rattle.meaning.specs.Program.{Program}
 use Rattle.meaning.specs.Services.{judged, run}
 use Rattle.lane.specs.Narrow.{narrow}
@@ -60,14 +60,13 @@ pub record Follows-lane (i : ℕ) (text : List ℕ) (budget : ℕ) (M N : Memory
   pub holds : Holds-lane i text ((run text M budget) .1) ((run (narrow text) N budget) .1)
 
 -- Take a text without `scalar` and a lane i of all its blocks, and a run that ends within its budget. Every run of the narrowed
--- text with that budget, over a memory that has room and holds lane i, follows that lane.
+-- text with that budget, over a memory that holds lane i, follows that lane.
 abbrev pub One-lane : Type 0
 One-lane =
     (text : List ℕ) (i budget : ℕ) (M N : Memory)
     → T (scalar-free text)
     → Has-lane i text
     → (run text M budget) .0 .code ≡ 0
-    → need (variables (narrow text)) ≤ length N
     → Holds-lane i text M N
     → Follows-lane i text budget M N
 

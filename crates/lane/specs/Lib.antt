@@ -2,3 +2,4 @@ pub mod Narrow
 pub mod Lane
 pub mod NarrowTree
 pub mod Values
+pub mod Demand

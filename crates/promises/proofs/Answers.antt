@@ -1,5 +1,5 @@
 -- What the definitions answer, by the code: the sentences under document 01's table of codes.
-use Prim.Native.Nat.{ℕ, _-_, _≤_}
+use Prim.Native.Nat.{ℕ, _-_, _≤_, _<_}
 use mathlib.Core.Path.{_≡_, refl}
 use mathlib.Core.Bool.{true, false≢true}
 use mathlib.Core.Logic.{_⊎_, inl, inr}
@@ -7,7 +7,7 @@ use mathlib.Core.List.{List, [], _∷_, _++_}
 use native.Mathlib.Omega.{arith}
 use lib.Dec.{leb}
 use lib.ListN.{length, drop, length-drop}
-use borrow.Author.Tests.{leb-true, leb-false}
+use borrow.Author.Tests.{leb-true, leb-false, lt-leb}
 use Rattle.meaning.specs.declared.Refusal.{Refusal}
 use Rattle.meaning.specs.declared.Refusal.the-variants.{MemoryTooShort, BudgetSpent}
 use Rattle.meaning.specs.Codes.{code, Out, ok, refused, the-judge-gives, only-a-run-gives}
@@ -80,6 +80,15 @@ module _ (text : List ℕ) where
       go : (o : Out Declarations Program) → 1 ≤ (verdict (λ Γ. 0) o) .code → executed program-run M budget o ≡ (verdict (λ Γ. 0) o, M)
       go (ok P Γ) h = absurd (omega arith)
       go (refused c p) h = refl
+
+  -- Where judge needs more than there is, run gives 12 and the need, and leaves the memory.
+  pub run-short : (M : Memory) (budget : ℕ) → length M < (judge text) .need → run text M budget ≡ (answer (code MemoryTooShort) 0 ((judge text) .need) 0, M)
+  unfolding judge verdict run executed answer
+  run-short M budget h = go (judged text) h
+    where
+      go : (o : Out Declarations Program) → length M < (verdict (λ Γ. 0) o) .need → executed program-run M budget o ≡ (answer (code MemoryTooShort) 0 ((verdict (λ Γ. 0) o) .need) 0, M)
+      go (ok P Γ) h = rw (lt-leb (need Γ) (length M) h)
+      go (refused c p) h = absurd (omega arith)
 
 -- A refusal of the judge is none of a run's.
 not-spent : Judge-refuses (code BudgetSpent) → ⊥

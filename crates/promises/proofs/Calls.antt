@@ -8,9 +8,9 @@ use lib.Dec.{leb}
 use lib.ListN.{length}
 use borrow.Author.Tests.{le-leb, lt-leb, leb-true, leb-false}
 use Rattle.meaning.specs.Memory.{little-endian, number-of}
-use Rattle.meaning.specs.Services.{Answer, answer, in-a-row, Called, numbers, with-numbers, called, Kept}
+use Rattle.meaning.specs.Services.{Answer, answer, answer-bytes, in-a-row, Called, numbers, with-numbers, called, Kept}
 use Rattle.laws.specs.Words.{Words}
-use Rattle.promises.specs.Promise.{answer-bytes, number-at, numbers-in, Delivers}
+use Rattle.promises.specs.Promise.{number-at, numbers-in, Delivers}
 
 -- Two results of a call that keep its promise are the same: return value, every byte of the answer slice and of what was lent.
 pub coincide : {A : Type 0} (by : Called A) (r r′ : ℕ) (s s′ : List ℕ) (l l′ : A) → Kept by r s l → Kept by r′ s′ l′ → (r ≡ r′) × (s ≡ s′) × (l ≡ l′)
@@ -29,7 +29,7 @@ delivers slice lent a after {returned} {slice′} {lent′} kept = record { with
     long h = let k = rw (le-leb answer-bytes (length slice) h) at kept in (k .returns, k .slice-is, k .lent-is)
 
 -- Four bytes hold a number below 2^32: it is read as it was written.
-four-bytes : (n : ℕ) → n < 2 ^ 32 → number-of (little-endian 4 n) ≡ n
+pub four-bytes : (n : ℕ) → n < 2 ^ 32 → number-of (little-endian 4 n) ≡ n
 unfolding number-of little-endian
 four-bytes n h = omega arith
 

@@ -3,3 +3,6 @@ pub mod Calls
 pub mod Demands
 pub mod Starred
 pub mod Outside
+pub mod Lanes
+pub mod Each
+pub mod Addresses

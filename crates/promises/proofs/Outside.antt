@@ -45,6 +45,9 @@ run-same : (text : List ℕ) (M : Memory) (budget : ℕ) → Same-outside (varia
 unfolding variables-in
 run-same text M budget = run-leaves text (λ o. Same-outside (variables-in o) M) M budget (λ P Γ r room. stepped (r .ordered) room) (λ o. same (variables-in o) M)
 
+pub run-long : (text : List ℕ) (M : Memory) (budget : ℕ) → length ((run text M budget) .1) ≡ length M
+run-long text M budget = run-same text M budget .as-long
+
 -- Demand 1, of every result that keeps run's promise: whatever the code, "Bytes outside the variables never change."
 pub run-outside : (text : List ℕ) (M : Memory) (budget : ℕ) (slice : List ℕ) {returned : ℕ} {slice′ : List ℕ} {M′ : Memory}
     → Kept (run-call text M budget slice) returned slice′ M′ → Same-outside (variables-in (judged text)) M M′

@@ -4,11 +4,7 @@ use mathlib.Core.Path.{_≡_}
 use mathlib.Core.List.{List}
 use lib.ListN.{length, take, drop}
 use Rattle.meaning.specs.Memory.{number-of}
-use Rattle.meaning.specs.Services.{Answer, answer, numbers, with-numbers}
-
--- "It lends a slice for the answer: at least 16 bytes".
-abbrev pub answer-bytes : ℕ
-answer-bytes = 16
+use Rattle.meaning.specs.Services.{Answer, answer, answer-bytes, numbers, with-numbers}
 
 -- Number i of the "32-bit little-endian numbers" in a row.
 unfoldable pub number-at : ℕ → List ℕ → ℕ
