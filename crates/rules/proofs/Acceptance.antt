@@ -19,13 +19,12 @@ use Rattle.meaning.specs.Program.{Program}
 use Rattle.meaning.specs.Memory.{Declarations}
 use Rattle.meaning.specs.Typing.{typed-statements, typed-program}
 use Rattle.meaning.specs.Services.{pass, judged, verdict, judge, answer}
-use Rattle.rules.specs.Accepted.{Accepted, Placed}
-use Rattle.laws.specs.Outcomes.{refusal, Succeeds}
+use Rattle.rules.specs.Accepted.{Accepted}
 use Rattle.laws.proofs.Outcomes.{said}
 use Rattle.laws.proofs.Codes.{some-code}
 use Rattle.rules.proofs.Names.{opens}
 use Rattle.rules.proofs.Typed.{sequence-by-rules}
-use Rattle.rules.proofs.Typable.{typable}
+use Rattle.rules.proofs.Typable.{Becomes, becomes}
 
 -- The three passes, and the limits of the first two.
 lexed-is : (text : List ℕ) →
@@ -37,7 +36,7 @@ read-is : (ts : List Token) → read ts ≡ sequence ts "end" (statement ts nest
 unfolding read
 read-is ts = refl
 
-pub typed-is : (l : Stmts) → typed-program l ≡ typed-statements 1 l []
+typed-is : (l : Stmts) → typed-program l ≡ typed-statements 1 l []
 unfolding typed-program
 typed-is l = refl
 
@@ -49,30 +48,31 @@ judged-is text = refl
 pub refusal-above-0 : (c : Refusal) → code c ≡ 0 → ⊥
 refusal-above-0 c e = omega (arith, some-code c)
 
--- The three passes of an accepted text, and back.
-pub passed : (text : List ℕ) (P : Program) (Γ : Declarations) → judged text ≡ ok P Γ → (tree : Stmts) × Placed text tree Γ
+-- The three passes of a text that the judge accepts.
+record Passes (text : List ℕ) (tree : Stmts) (P : Program) (Γ : Declarations) : Type 0 where
+  tokens : List Token
+  end : ℕ
+  last : ℕ
+  lexes : lexed text ≡ ok tokens end
+  reads : read tokens ≡ ok tree last
+  types : typed-program tree ≡ ok P Γ
+
+passes : (text : List ℕ) (P : Program) (Γ : Declarations) → judged text ≡ ok P Γ → (tree : Stmts) × Passes text tree P Γ
 unfolding pass
-passed text P Γ e = lexing (lexed text) refl (sym (judged-is text) ∙ e)
+passes text P Γ e = lexing (lexed text) refl (sym (judged-is text) ∙ e)
   where
     reading : (ts : List Token) (q : ℕ) → lexed text ≡ ok ts q → (o : Out ℕ Stmts) → read ts ≡ o → pass o typed-program ≡ ok P Γ →
-        (tree : Stmts) × Placed text tree Γ
-    reading ts q l (ok t p) r h = (t, record { tokens = ts; end = q; last = p; program = P; lexes = l; reads = r; types = h })
+        (tree : Stmts) × Passes text tree P Γ
+    reading ts q l (ok t p) r h = (t, record { tokens = ts; end = q; last = p; lexes = l; reads = r; types = h })
     reading ts q l (refused c p) r h = let never : _≡_ {A = ℕ} 0 1 = cc in absurd (omega arith)
 
     lexing : (o : Out ℕ (List Token)) → lexed text ≡ o → pass o (λ ts. pass (read ts) typed-program) ≡ ok P Γ →
-        (tree : Stmts) × Placed text tree Γ
+        (tree : Stmts) × Passes text tree P Γ
     lexing (ok ts q) l h = reading ts q l (read ts) refl h
     lexing (refused c p) l h = let never : _≡_ {A = ℕ} 0 1 = cc in absurd (omega arith)
 
-pub placed-judged : (text : List ℕ) (tree : Stmts) (Γ : Declarations) (p : Placed text tree Γ) → judged text ≡ ok (p .program) Γ
-unfolding pass
-placed-judged text tree Γ p = rw (judged-is, p .lexes, p .reads) (p .types)
-
--- An accepted text has a tree whose limits hold and which the rules type.
-module _ (text : List ℕ) (tree : Stmts) (Γ : Declarations) (p : Placed text tree Γ) where
-  pub tree-typed : typed-statements 1 tree [] ≡ ok (p .program) Γ
-  tree-typed = sym (typed-is tree) ∙ p .types
-
+-- It has a tree whose limits hold and which the rules type.
+module _ (text : List ℕ) (tree : Stmts) (P : Program) (Γ : Declarations) (p : Passes text tree P Γ) where
   short-tokens : (length text ≤ text-limit) × (T.tokens text ≡ ok (p .tokens) (p .end))
   short-tokens = go (leb (length text) text-limit) refl (sym (lexed-is text) ∙ p .lexes)
     where
@@ -85,7 +85,7 @@ module _ (text : List ℕ) (tree : Stmts) (Γ : Declarations) (p : Placed text t
   by-rules : Accepted text
   unfolding opens
   by-rules =
-      let h = said (sequence-by-rules tree 1 []) tree-typed in
+      let h = said (sequence-by-rules tree 1 []) (sym (typed-is tree) ∙ p .types) in
       record {
         tokens = p .tokens;
         end = p .end;
@@ -99,26 +99,19 @@ module _ (text : List ℕ) (tree : Stmts) (Γ : Declarations) (p : Placed text t
         types = h .types;
       }
 
--- A text that has one is accepted: its declarations have a table.
-pub placed : (text : List ℕ) (a : Accepted text) → (Γ : Declarations) × Placed text (a .tree) Γ
-unfolding opens
-placed text a = go (typed-statements 1 (a .tree) []) refl ((typable (a .types)) .act [] refl (omega (arith, a .few)))
-  where
-    go : (o : Out Declarations Program) → typed-statements 1 (a .tree) [] ≡ o → Succeeds (λ P Γ. opens Γ ≡ a .names) o →
-        (Γ : Declarations) × Placed text (a .tree) Γ
-    go (ok P Γ) e h = (
-      Γ,
-      record {
-        tokens = a .tokens;
-        end = a .end;
-        last = a .last;
-        program = P;
-        lexes = rw (lexed-is, le-leb (length text) text-limit (a .short)) (a .lexes);
-        reads = read-is (a .tokens) ∙ a .reads;
-        types = typed-is (a .tree) ∙ e;
-      },
-    )
-    go (refused c p) e (refusal never) = absurd never
+pub accepted : (text : List ℕ) (P : Program) (Γ : Declarations) → judged text ≡ ok P Γ → Accepted text
+accepted text P Γ j = let p = passes text P Γ j in by-rules text (p .0) P Γ (p .1)
+
+-- What `meaning` makes of it.
+pub text-becomes : (text : List ℕ) (a : Accepted text) → Becomes (a .types)
+text-becomes text a = becomes (a .types) (omega arith) (a .few)
+
+pub judges : (text : List ℕ) (a : Accepted text) → judged text ≡ ok ((text-becomes text a) .program) ((text-becomes text a) .table)
+unfolding pass
+judges text a =
+    let lexes : lexed text ≡ ok (a .tokens) (a .end) = rw (lexed-is, le-leb (length text) text-limit (a .short)) (a .lexes) in
+    let reads : read (a .tokens) ≡ ok (a .tree) (a .last) = read-is (a .tokens) ∙ a .reads in
+    rw (judged-is, lexes, reads) (typed-is (a .tree) ∙ (text-becomes text a) .typed)
 
 judge-is : (text : List ℕ) → judge text ≡ verdict (λ Γ. 0) (judged text)
 unfolding judge
@@ -129,9 +122,9 @@ pub acceptance : (text : List ℕ) → (judge text) .code ≡ 0 ↔ Accepted tex
 unfolding verdict answer
 acceptance text = (
   λ e. accepts (judged text) refl (rw judge-is at e),
-  λ a. let p = placed text a in rw (judge-is, placed-judged text (a .tree) (p .0) (p .1)),
+  λ a. rw (judge-is, judges text a),
 )
   where
     accepts : (o : Out Declarations Program) → judged text ≡ o → (verdict (λ Γ. 0) o) .code ≡ 0 → Accepted text
-    accepts (ok P Γ) j e = let p = passed text P Γ j in by-rules text (p .0) Γ (p .1)
+    accepts (ok P Γ) j e = accepted text P Γ j
     accepts (refused c p) j e = absurd (refusal-above-0 c e)

@@ -4,6 +4,8 @@ pub mod Resolved
 pub mod Derived
 pub mod Progress
 pub mod Names
+pub mod Laying
+pub mod Sizes
 pub mod Operators
 pub mod Typed
 pub mod Typable
@@ -14,5 +16,7 @@ pub mod Programs
 pub mod Resolution
 pub mod Numbers
 pub mod Trees
+pub mod Alike
 pub mod Deterministic
+pub mod Addresses
 pub mod Runs

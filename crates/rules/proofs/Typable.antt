@@ -1,8 +1,8 @@
--- What the rules type, within the limit of declarations, `meaning` types.
+-- What the rules type, within the limit of declarations, `meaning` types, and lays out the derivation's variables.
 use Prim.Native.Nat.{ℕ, _+_, _<_, _≤_}
 use mathlib.Core.Path.{_≡_, refl, ap, ap₂, _∙_}
 use mathlib.Core.Bool.{true, false}
-use mathlib.Core.List.{[], _∷_, _++_}
+use mathlib.Core.List.{List, [], _∷_, _++_}
 use mathlib.Core.Option.{Option, none, some}
 use native.Mathlib.Omega.{arith}
 use lib.ListN.{length}
@@ -10,22 +10,25 @@ use borrow.Author.Tests.{lt-ltb}
 use Rattle.meaning.specs.declared.Kind.{Kind}
 use Rattle.meaning.specs.declared.Kind.the-variants.{Bool as bool}
 use Rattle.meaning.specs.declared.Refusal.the-variants.{UnknownName, WrongKind, WrongLength}
-use Rattle.meaning.specs.Codes.{ok, check, refuse, give, option, _>>=_, _>>_, lengths, declaration-limit}
+use Rattle.meaning.specs.Codes.{Out, ok, refused, check, refuse, give, option, _>>=_, _>>_, lengths, declaration-limit}
 use Rattle.meaning.specs.declared.Binary.{Binary}
 use Rattle.meaning.specs.Tree.{Name, same-kind, _one-of_, table, unary-table, Expr, number, Block, Stmt, empty, braces, declare, assign, if-else, while, scalar, Stmts, none-yet, _⨾_}
-use Rattle.meaning.specs.Program.{two}
-use Rattle.meaning.specs.Memory.{Declared, Declarations, declared}
+use Rattle.meaning.specs.Program.{Program, two}
+use Rattle.meaning.specs.Memory.{Declared, Declarations, declared, need}
 use Rattle.meaning.specs.Typing.{Typed, accepts, gives-kind, match, fits, find, variable-named, typed, typed-condition, storable, declare-name, good-block, lanes-or, typed-declaration, with-one, scope, typed-statement, typed-statements, joined}
 use Rattle.rules.specs.Lengths.{Match, Target, Fills, whole, broadcast}
 use Rattle.rules.specs.Operators.{_takes-two_gives_}
 use Rattle.rules.specs.Scopes.{declarations, declarations-in}
 use Rattle.rules.specs.Typing.{Names, _at_, Listed, no-block, block, _∣_⊢_∶⟨_∣_⟩, T-NUMBER, T-BOOLEAN, T-VAR, T-MASK, T-UNARY, T-BINARY, _∣_⊢_⊣_, T-SKIP, T-SCOPE, T-DECL, T-INIT, T-ASSIGN, T-BROADCAST, T-IF, T-WHILE, T-SCALAR, _∣_⊢*_⊣_, T-NONE, T-SEQUENCE}
-use Rattle.laws.specs.Outcomes.{well, Succeeds, Still}
+use Rattle.rules.specs.Laying.{Variable, variables-of, Lays}
+use Rattle.laws.specs.Outcomes.{well, refusal, Succeeds, Still}
 use Rattle.laws.proofs.Outcomes.{followed, keeping, also}
 use Rattle.rules.proofs.Operators.{same-as-itself, in-unary-table, in-table}
 use Rattle.rules.proofs.Lengths.{match-fits, does-match, not-narrow, target-match, does-fill}
 use Rattle.rules.proofs.Names.{opens, opens-with-one, Found, missing, number as found, finds}
 use Rattle.rules.proofs.Typed.{counted, in-scope, Branch, stated-by-rules, sequence-by-rules}
+use Rattle.rules.proofs.Laying.{lies-none, Adds, adds-none, adds-both, adds-closed, adds-one}
+use Rattle.rules.proofs.Sizes.{Sized, no-name, sized-more, some-joined, some-length, some-block}
 
 -- A variable, or a value, of a kind and a length.
 record Of (k : Kind) (n : ℕ) (kind : Kind) (lanes : ℕ) : Type 0 where
@@ -119,126 +122,200 @@ unfolding good-block
 good Γ no-block = refl
 good Γ (block h) = rw h
 
--- Where there is room for its declarations, a statement or a sequence is not refused, and leaves the names N′.
-record Typable (C : ℕ) (s : Stmt) (N N′ : Names) : Type 0 where
-  act : (Γ : Declarations) → opens Γ ≡ N → length Γ + declarations s ≤ declaration-limit →
-      Succeeds (λ P Γ′. opens Γ′ ≡ N′) (typed-statement C s Γ)
+-- Before a statement: the names N are open, and all lengths are above 0.
+record From (N : Names) (C : ℕ) (Γ : Declarations) : Type 0 where
+  opened : opens Γ ≡ N
+  sized : Sized N
+  some-lanes : 0 < C
 
-pub record Typable-all (C : ℕ) (l : Stmts) (N N′ : Names) : Type 0 where
-  pub act : (Γ : Declarations) → opens Γ ≡ N → length Γ + declarations-in l ≤ declaration-limit →
-      Succeeds (λ P Γ′. opens Γ′ ≡ N′) (typed-statements C l Γ)
+-- What it leaves: the names N′, and the variables v behind those before.
+record Leaves (N′ : Names) (v : List Variable) (Γ Γ′ : Declarations) : Type 0 where
+  opened : opens Γ′ ≡ N′
+  sized : Sized N′
+  adds : Adds v Γ Γ′
+
+-- Where there is room for its declarations, it is not refused.
+record Typable (C : ℕ) (s : Stmt) (N N′ : Names) (v : List Variable) : Type 0 where
+  act : (Γ : Declarations) → From N C Γ → length Γ + declarations s ≤ declaration-limit →
+      Succeeds (λ P Γ′. Leaves N′ v Γ Γ′) (typed-statement C s Γ)
+
+-- The same of a sequence.
+record Typable-all (C : ℕ) (l : Stmts) (N N′ : Names) (v : List Variable) : Type 0 where
+  act : (Γ : Declarations) → From N C Γ → length Γ + declarations-in l ≤ declaration-limit →
+      Succeeds (λ P Γ′. Leaves N′ v Γ Γ′) (typed-statements C l Γ)
 
 -- A branch or a body.
-branch-known : {C : ℕ} {s : Stmt} {N N′ : Names} → Typable C s N N′ → (Γ : Declarations) → opens Γ ≡ N →
-    length Γ + declarations s ≤ declaration-limit → Succeeds (Branch s C Γ) (scope (typed-statement C s) Γ)
+record Branch-adds (s : Stmt) (C : ℕ) (v : List Variable) (Γ : Declarations) (P : Program) (Γ′ : Declarations) : Type 0 where
+  is : Branch s C Γ P Γ′
+  adds : Adds v Γ Γ′
+
+branch-known : {C : ℕ} {s : Stmt} {N N′ : Names} {v : List Variable} → Typable C s N N′ v → (Γ : Declarations) → From N C Γ →
+    length Γ + declarations s ≤ declaration-limit → Succeeds (Branch-adds s C v Γ) (scope (typed-statement C s) Γ)
 unfolding scope
 branch-known {C} {s} a Γ o r =
     followed _ (also (a .act Γ o r) (stated-by-rules s C Γ)) (λ P Γ′ h.
-    well (in-scope (λ N. opens Γ ∣ C ⊢ s ⊣ N) (h .1 .declares) (h .1 .types)))
+    well (record {
+      is = in-scope (λ N. opens Γ ∣ C ⊢ s ⊣ N) (h .1 .declares) (h .1 .types);
+      adds = adds-closed (length Γ) (h .0 .adds);
+    }))
+
+-- Behind a condition of length l, in its branches; and behind one of them.
+inside : {N : Names} {C l : ℕ} {e : Expr} {Γ : Declarations} → N ∣ C ⊢ e ∶⟨ bool ∣ l ⟩ → From N C Γ → From N (joined l C) Γ
+inside {C} {l} d o = record {
+  opened = o .opened;
+  sized = o .sized;
+  some-lanes = some-joined l C (some-length (o .sized) (o .some-lanes) d) (o .some-lanes);
+}
+
+again : {N : Names} {C : ℕ} {Γ Γ′ : Declarations} → opens Γ′ ≡ opens Γ → From N C Γ → From N C Γ′
+again e o = record { opened = e ∙ o .opened; sized = o .sized; some-lanes = o .some-lanes }
+
+-- The names stay.
+keeps : {N : Names} {C : ℕ} {v : List Variable} {Γ Γ′ : Declarations} → From N C Γ → opens Γ′ ≡ opens Γ → Adds v Γ Γ′ → Leaves N v Γ Γ′
+keeps o e a = record { opened = e ∙ o .opened; sized = o .sized; adds = a }
+
+-- One is declared.
+leaves-one : {N : Names} {C : ℕ} (k : Kind) (n p : ℕ) (x : Name) (Γ : Declarations) → From N C Γ → 0 < n →
+    Leaves (N ++ ((x, (k, n)) ∷ [])) (record { name = x; place = p; kind = k; lanes = n } ∷ []) Γ (with-one k n p x Γ)
+leaves-one k n p x Γ o above = record {
+  opened = opens-with-one k n p x Γ ∙ rw (o .opened);
+  sized = sized-more x k n (o .sized) above;
+  adds = adds-one k n p x Γ above;
+}
 
 -- A law for each rule.
 module _ {C p : ℕ} {N : Names} where
-  skips : Typable C (empty p) N N
+  skips : Typable C (empty p) N N []
   unfolding typed-statement
-  skips = record { act = λ Γ o r. well o }
+  skips = record { act = λ Γ o r. well (keeps o refl adds-none) }
 
-  scopes : {N′ : Names} {l : Stmts} → Typable-all C l N N′ → Typable C (braces p l) N N
+  scopes : {N′ : Names} {l : Stmts} {v : List Variable} → Typable-all C l N N′ v → Typable C (braces p l) N N v
   unfolding typed-statement declarations scope
   scopes {l} a = record {
     act = λ Γ o r.
         followed _ (also (a .act Γ o r) (sequence-by-rules l C Γ)) (λ P Γ′ h.
-        well ((in-scope (λ N. opens Γ ∣ C ⊢* l ⊣ N) (h .1 .declares) (h .1 .types)) .closed ∙ o));
+        let i = in-scope (λ N. opens Γ ∣ C ⊢* l ⊣ N) (h .1 .declares) (h .1 .types) in
+        well (keeps o (i .closed) (adds-closed (length Γ) (h .0 .adds))));
   }
 
   declares : {q : ℕ} {k : Kind} {b : Block} {x : Name} → Listed b → Match C (lanes-or 1 b) → N at x ≡ none →
       Typable C (declare p k b q x none) N (N ++ ((x, (k, lanes-or 1 b)) ∷ []))
+      (record { name = x; place = q; kind = k; lanes = lanes-or 1 b } ∷ [])
   unfolding typed-statement declarations typed-declaration
   declares {q} {k} {b} {x} g m e = record {
     act = λ Γ o r.
         let n = lanes-or 1 b in
-        rw (good Γ g, name-new C k n q x Γ m (rw o e) (omega arith))
-        (well (opens-with-one k n q x Γ ∙ rw o));
+        rw (good Γ g, name-new C k n q x Γ m (rw (o .opened) e) (omega arith))
+        (well (leaves-one k n q x Γ o (some-block 1 g (omega arith))));
   }
 
   inits : {q l : ℕ} {k : Kind} {b : Block} {x : Name} {e : ℕ × Expr} → Listed b → N ∣ C ⊢ e .1 ∶⟨ k ∣ l ⟩ →
       Fills l (lanes-or l b) → Target C (lanes-or l b) → N at x ≡ none →
       Typable C (declare p k b q x (some e)) N (N ++ ((x, (k, lanes-or l b)) ∷ []))
+      (record { name = x; place = q; kind = k; lanes = lanes-or l b } ∷ [])
   unfolding typed-statement declarations typed-declaration
   inits {q} {l} {k} {b} {x} {e} g d f t new = record {
     act = λ Γ o r.
         rw (good Γ g)
-        (keeping _ (type-known d Γ o) (λ a h.
+        (keeping _ (type-known d Γ (o .opened)) (λ a h.
         let n = lanes-or l b in
         let lanes : lanes-or (a .lanes) b ≡ n = ap (λ i. lanes-or i b) (h .lengths) in
-        rw (lanes, fits-target (e .0) k n a Γ h f t, name-new C k n q x Γ (target-match C n t) (rw o new) (omega arith))
-        (well (opens-with-one k n q x Γ ∙ rw o))));
+        rw (lanes, fits-target (e .0) k n a Γ h f t, name-new C k n q x Γ (target-match C n t) (rw (o .opened) new) (omega arith))
+        (well (leaves-one k n q x Γ o (some-block l g (some-length (o .sized) (o .some-lanes) d))))));
   }
 
   assigns : {q n l : ℕ} {k : Kind} {x : Name} {e : Expr} → N at x ≡ some (k, n) → N ∣ C ⊢ e ∶⟨ k ∣ l ⟩ → Fills l n → Target C n →
-      Typable C (assign p x q e) N N
+      Typable C (assign p x q e) N N []
   unfolding typed-statement
   assigns {q} {n} {k = k} {x = x} h d f t = record {
     act = λ Γ o r.
-        keeping _ (known C p x Γ k n (rw o h) (target-match C n t)) (λ v i.
-        keeping _ (type-known d Γ o) (λ a j.
-        rw (i .kinds, i .lengths, fits-target q k n a Γ j f t) (well o)));
+        keeping _ (known C p x Γ k n (rw (o .opened) h) (target-match C n t)) (λ v i.
+        keeping _ (type-known d Γ (o .opened)) (λ a j.
+        rw (i .kinds, i .lengths, fits-target q k n a Γ j f t) (well (keeps o refl adds-none))));
   }
 
-  ifs : {N₁ N₂ : Names} {l : ℕ} {e : Expr} {s t : Stmt} → N ∣ C ⊢ e ∶⟨ bool ∣ l ⟩ → Typable (joined l C) s N N₁ →
-      Typable (joined l C) t N N₂ → Typable C (if-else p e s t) N N
+  ifs : {N₁ N₂ : Names} {l : ℕ} {e : Expr} {s t : Stmt} {v w : List Variable} → N ∣ C ⊢ e ∶⟨ bool ∣ l ⟩ →
+      Typable (joined l C) s N N₁ v → Typable (joined l C) t N N₂ w → Typable C (if-else p e s t) N N (v ++ w)
   unfolding typed-statement declarations
   ifs d a b = record {
     act = λ Γ o r.
-        keeping _ (condition-known d p Γ o) (λ c h.
+        keeping _ (condition-known d p Γ (o .opened)) (λ c h.
         rw h
-        (followed _ (branch-known a Γ o (omega arith)) (λ P Γ₁ i.
-        let n = counted (i .declares) in
-        followed _ (branch-known b Γ₁ (i .closed ∙ o) (omega arith)) (λ P′ Γ₂ j.
-        well (j .closed ∙ (i .closed ∙ o))))));
+        (followed _ (branch-known a Γ (inside d o) (omega arith)) (λ P Γ₁ i.
+        let n = counted (i .is .declares) in
+        followed _ (branch-known b Γ₁ (again (i .is .closed) (inside d o)) (omega arith)) (λ P′ Γ₂ j.
+        well (keeps o (j .is .closed ∙ i .is .closed) (adds-both (i .adds) (j .adds)))))));
   }
 
-  whiles : {N′ : Names} {l : ℕ} {e : Expr} {s : Stmt} → N ∣ C ⊢ e ∶⟨ bool ∣ l ⟩ → Typable (joined l C) s N N′ →
-      Typable C (while p e s) N N
+  whiles : {N′ : Names} {l : ℕ} {e : Expr} {s : Stmt} {v : List Variable} → N ∣ C ⊢ e ∶⟨ bool ∣ l ⟩ →
+      Typable (joined l C) s N N′ v → Typable C (while p e s) N N v
   unfolding typed-statement declarations
   whiles d a = record {
     act = λ Γ o r.
-        keeping _ (condition-known d p Γ o) (λ c h.
+        keeping _ (condition-known d p Γ (o .opened)) (λ c h.
         rw h
-        (followed _ (branch-known a Γ o r) (λ P Γ₁ i.
-        well (i .closed ∙ o))));
+        (followed _ (branch-known a Γ (inside d o) r) (λ P Γ₁ i.
+        well (keeps o (i .is .closed) (i .adds)))));
   }
 
-  scalars : {N′ : Names} {s : Stmt} → Typable 1 s N N′ → Typable C (scalar p s) N N
+  scalars : {N′ : Names} {s : Stmt} {v : List Variable} → Typable 1 s N N′ v → Typable C (scalar p s) N N v
   unfolding typed-statement declarations
-  scalars a = record { act = λ Γ o r. followed _ (branch-known a Γ o r) (λ P Γ₁ i. well (i .closed ∙ o)) }
+  scalars a = record {
+    act = λ Γ o r.
+        followed _ (branch-known a Γ (record { opened = o .opened; sized = o .sized; some-lanes = omega arith }) r) (λ P Γ₁ i.
+        well (keeps o (i .is .closed) (i .adds)));
+  }
 
 module _ {C : ℕ} {N : Names} where
-  nones : Typable-all C none-yet N N
+  nones : Typable-all C none-yet N N []
   unfolding typed-statement
-  nones = record { act = λ Γ o r. well o }
+  nones = record { act = λ Γ o r. well (keeps o refl adds-none) }
 
-  sequences : {N₁ N₂ : Names} {l : Stmts} {s : Stmt} → Typable-all C l N N₁ → Typable C s N₁ N₂ → Typable-all C (l ⨾ s) N N₂
+  sequences : {N₁ N₂ : Names} {l : Stmts} {s : Stmt} {v w : List Variable} → Typable-all C l N N₁ v → Typable C s N₁ N₂ w →
+      Typable-all C (l ⨾ s) N N₂ (v ++ w)
   unfolding typed-statement declarations
-  sequences {l} a b = record {
+  sequences {N₁} {l = l} a b = record {
     act = λ Γ o r.
         followed _ (also (a .act Γ o (omega arith)) (sequence-by-rules l C Γ)) (λ P Γ₁ h.
         let n = counted (h .1 .declares) in
-        followed _ (b .act Γ₁ (h .0) (omega arith)) (λ P′ Γ₂ j.
-        well j));
+        let o₁ : From N₁ C Γ₁ = record { opened = h .0 .opened; sized = h .0 .sized; some-lanes = o .some-lanes } in
+        followed _ (b .act Γ₁ o₁ (omega arith)) (λ P′ Γ₂ j.
+        well (record { opened = j .opened; sized = j .sized; adds = adds-both (h .0 .adds) (j .adds) })));
   }
 
--- What the rules type.
-pub typable : {N N′ : Names} {C : ℕ} {l : Stmts} → N ∣ C ⊢* l ⊣ N′ → Typable-all C l N N′
-typable d = elim d as (λ N C s N′ d. Typable C s N N′) (λ N C l N′ d. Typable-all C l N N′) [
-  | T-SKIP ↦ skips
-  | T-SCOPE (d → a) ↦ scopes a
-  | T-DECL g m e ↦ declares g m e
-  | T-INIT g d f t e ↦ inits g d f t e
-  | T-ASSIGN h d t ↦ assigns h d (whole refl) t
-  | T-BROADCAST h d t ↦ assigns h d (broadcast refl) t
-  | T-IF d m (s → a) (t → b) ↦ ifs d a b
-  | T-WHILE d m (s → a) ↦ whiles d a
-  | T-SCALAR (s → a) ↦ scalars a
-  | T-NONE ↦ nones
-  | T-SEQUENCE (l → a) (s → b) ↦ sequences a b
-]
+-- What the rules type, with the variables of the derivation. (Those of a statement are those of a sequence that is it alone.)
+typable : {N N′ : Names} {C : ℕ} {l : Stmts} (d : N ∣ C ⊢* l ⊣ N′) → Typable-all C l N N′ (variables-of d)
+unfolding variables-of
+typable d = elim d as
+    (λ N C s N′ d. Typable C s N N′ (variables-of (T-SEQUENCE T-NONE d)))
+    (λ N C l N′ d. Typable-all C l N N′ (variables-of d)) [
+      | T-SKIP ↦ skips
+      | T-SCOPE (d → a) ↦ scopes a
+      | T-DECL g m e ↦ declares g m e
+      | T-INIT g d f t e ↦ inits g d f t e
+      | T-ASSIGN h d t ↦ assigns h d (whole refl) t
+      | T-BROADCAST h d t ↦ assigns h d (broadcast refl) t
+      | T-IF d m (s → a) (t → b) ↦ ifs d a b
+      | T-WHILE d m (s → a) ↦ whiles d a
+      | T-SCALAR (s → a) ↦ scalars a
+      | T-NONE ↦ nones
+      | T-SEQUENCE (l → a) (s → b) ↦ sequences a b
+    ]
+
+-- What `meaning` makes of statements that the rules type from no names: a program, and a table in which their variables lie.
+pub record Becomes {N : Names} {C : ℕ} {l : Stmts} (d : [] ∣ C ⊢* l ⊣ N) : Type 0 where
+  pub program : Program
+  pub table : Declarations
+  pub typed : typed-statements C l [] ≡ ok program table
+  pub lays : Lays 0 (variables-of d) table (need table)
+
+pub becomes : {N : Names} {C : ℕ} {l : Stmts} (d : [] ∣ C ⊢* l ⊣ N) → 0 < C → declarations-in l ≤ declaration-limit → Becomes d
+unfolding opens
+becomes {N} {C} {l} d above few = go (typed-statements C l []) refl ((typable d) .act [] start (omega arith))
+  where
+    start : From [] C []
+    start = record { opened = refl; sized = no-name; some-lanes = above }
+
+    go : (o : Out Declarations Program) → typed-statements C l [] ≡ o → Succeeds (λ P Γ. Leaves N (variables-of d) [] Γ) o → Becomes d
+    go (ok P Γ) e (well h) = record { program = P; table = Γ; typed = e; lays = (h .adds .behind [] lies-none) .lays }
+    go (refused c p) e (refusal never) = absurd never

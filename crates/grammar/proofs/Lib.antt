@@ -1,0 +1,11 @@
+pub mod Written
+pub mod Levels
+pub mod Ends
+pub mod Sound
+pub mod Parse
+pub mod Complete
+pub mod Deep
+pub mod One
+pub mod Agree
+pub mod Exactly
+pub mod Acceptance
