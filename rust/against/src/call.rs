@@ -2,7 +2,7 @@
 
 use crate::services::Services;
 use crate::show;
-use generate::Case;
+use generate::{Batch, Case, Shape};
 use std::fmt;
 
 /// One call, but for the text.
@@ -10,7 +10,7 @@ use std::fmt;
 pub struct Call {
     /// Which service is called, with what.
     pub service: Service,
-    /// The length of the answer slice.
+    /// The length of the slice for the answer, or the answers.
     pub answer: usize,
 }
 
@@ -21,28 +21,65 @@ pub enum Service {
     Judge,
     /// The runner, over this memory, with this budget.
     Run(Vec<u8>, u32),
+    /// The runner over many images.
+    RunEach(Images),
     /// The listing of variables, into a table of this length.
     Variables(usize),
+}
+
+/// Many images and a budget.
+#[derive(Clone, Debug, PartialEq, Eq)]
+pub struct Images {
+    /// How the images are made for a text.
+    pub shape: Shape,
+    /// The images side by side.
+    pub bytes: Vec<u8>,
+    /// The bytes of one image.
+    pub size: usize,
+    /// The most steps of each.
+    pub budget: u32,
 }
 
 /// What a call returned, and what it left in the slices that it was lent.
 #[derive(Clone, Debug, PartialEq, Eq)]
 pub struct Left {
     /// The number returned.
-    pub returned: u32,
+    pub returned: usize,
     /// The whole answer slice.
     pub answer: Vec<u8>,
-    /// The whole memory or table.
+    /// The whole memory or table, or all images.
     pub bytes: Vec<u8>,
     /// Whether every byte round the slices stayed.
     pub round_kept: bool,
 }
 
 impl Call {
+    /// The call of `run_each` over the images of this shape, for this text and budget.
+    pub fn run_each(shape: Shape, text: &[u8], budget: u32) -> Call {
+        let Batch {
+            images,
+            size,
+            answers,
+        } = shape.batch(text);
+        let images = Images {
+            shape,
+            bytes: images,
+            size,
+            budget,
+        };
+        Call {
+            service: Service::RunEach(images),
+            answer: answers,
+        }
+    }
+
     /// The same call for another case.
     pub fn on(&self, case: &Case) -> Call {
         let service = match &self.service {
             Service::Run(..) => Service::Run(case.memory.clone(), case.budget),
+            Service::RunEach(images) => {
+                return Call::run_each(images.shape.clone(), &case.text, case.budget);
+            }
             other => other.clone(),
         };
         Call {
@@ -51,16 +88,26 @@ impl Call {
         }
     }
 
+    /// The budget of a run, or of each of many.
+    pub fn budget(&self) -> Option<u32> {
+        match &self.service {
+            Service::Run(_, budget) => Some(*budget),
+            Service::RunEach(images) => Some(images.budget),
+            Service::Judge | Service::Variables(_) => None,
+        }
+    }
+
     /// The answer slice before the call.
     pub fn answer_before(&self) -> Vec<u8> {
         pattern(self.answer)
     }
 
-    /// The memory or table before the call; the judge has none.
+    /// The memory, the images or the table before the call; the judge has none.
     pub fn bytes_before(&self) -> Vec<u8> {
         match &self.service {
             Service::Judge => Vec::new(),
             Service::Run(memory, _) => memory.clone(),
+            Service::RunEach(images) => images.bytes.clone(),
             Service::Variables(length) => pattern(*length),
         }
     }
@@ -72,12 +119,16 @@ impl Call {
         text: &[u8],
         bytes: &mut [u8],
         answer: &mut [u8],
-    ) -> u32 {
-        match self.service {
+    ) -> usize {
+        let returned = match &self.service {
             Service::Judge => services.judge(text, answer),
-            Service::Run(_, budget) => services.run(text, bytes, budget, answer),
+            Service::Run(_, budget) => services.run(text, bytes, *budget, answer),
+            Service::RunEach(images) => {
+                return services.run_each(text, bytes, images.size, images.budget, answer);
+            }
             Service::Variables(_) => services.variables(text, bytes, answer),
-        }
+        };
+        returned as usize
     }
 
     /// Makes the call on this text, over slices with other bytes round them.
@@ -140,6 +191,13 @@ impl fmt::Display for Call {
                 "run over {} bytes of memory with budget {budget}",
                 memory.len()
             )?,
+            Service::RunEach(images) => write!(
+                f,
+                "run each over images of {} bytes in {} bytes with budget {}",
+                images.size,
+                images.bytes.len(),
+                images.budget
+            )?,
             Service::Variables(length) => write!(f, "variables into a table of {length} bytes")?,
         }
         write!(f, ", answer slice of {} bytes", self.answer)
@@ -155,7 +213,7 @@ impl fmt::Display for Left {
         let numbers: Vec<String> = numbers.collect();
         writeln!(f, "  returned {}: {}", self.returned, numbers.join(" "))?;
         writeln!(f, "  answer slice {}", show::hex(&self.answer))?;
-        write!(f, "  memory or table {}", show::hex(&self.bytes))?;
+        write!(f, "  memory, images or table {}", show::hex(&self.bytes))?;
         match self.round_kept {
             true => Ok(()),
             false => write!(f, "\n  bytes outside the slices have changed"),

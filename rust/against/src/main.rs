@@ -90,8 +90,9 @@ fn wish(arguments: &[String]) -> Option<Wish> {
 /// Says what was compared.
 fn print(tally: &Tally, start: Instant) {
     let seconds = start.elapsed().as_secs_f64();
-    let (cases, calls) = (tally.cases, tally.calls);
+    let (cases, calls, images) = (tally.cases, tally.calls, tally.images);
     println!("no difference: {cases} cases, {calls} calls on each side, {seconds:.1} s");
+    println!("  {images} images run by run_each");
     for (sort, count) in &tally.sorts {
         println!("  {sort:>12} {count:>9}");
     }

@@ -1,7 +1,7 @@
 //! Which calls are made for one case.
 
 use crate::call::{Call, Service};
-use generate::{Case, Random};
+use generate::{Case, Random, Shape};
 use oracle::Code;
 
 /// The longest answer slice tried.
@@ -16,6 +16,12 @@ const MOST_BUDGETS: u32 = 400;
 /// How many budgets, from 0 on, are then tried.
 const FIRST_BUDGETS: u32 = 64;
 
+/// One case in so many is run over thousands of images.
+const THOUSANDS: usize = 256;
+
+/// The most steps of each of thousands of images.
+const MOST_STEPS_OF_THOUSANDS: u32 = 60;
+
 /// What is tried with a case beside the judge, a run and a listing; it stays the same while a
 /// case shrinks. Every budget is tried with every case.
 #[derive(Clone, Debug)]
@@ -24,6 +30,8 @@ pub struct Plan {
     answers: Vec<usize>,
     /// How many records each table has room for, and how many bytes more or less than that.
     tables: Vec<(usize, i32)>,
+    /// How images are made for `run_each`, and the most steps of each.
+    batches: Vec<(Shape, u32)>,
 }
 
 impl Plan {
@@ -38,7 +46,25 @@ impl Plan {
             0 => (0..=66).flat_map(|k| [(k, -1), (k, 0), (k, 1)]).collect(),
             _ => (0..3).map(|_| Self::table(&mut random)).collect(),
         };
-        Plan { answers, tables }
+        let batches = Self::batches(&mut random);
+        Plan {
+            answers,
+            tables,
+            batches,
+        }
+    }
+
+    /// A few images, slices that fit by chance, and now and then thousands of images.
+    fn batches(random: &mut Random) -> Vec<(Shape, u32)> {
+        let mut batches = vec![
+            (Shape::few(random), u32::MAX),
+            (Shape::few(random), random.below(20) as u32),
+            (Shape::odd(random), u32::MAX),
+        ];
+        if random.once_in(THOUSANDS) {
+            batches.push((Shape::thousands(random), MOST_STEPS_OF_THOUSANDS));
+        }
+        batches
     }
 
     /// Room for a few records, give or take a byte, or for them all.
@@ -65,6 +91,10 @@ impl Plan {
             let length = (records * RECORD) as i32 + more;
             let service = Service::Variables(length.max(0) as usize);
             calls.push(Call { service, answer });
+        }
+        for (shape, most) in &self.batches {
+            let budget = case.budget.min(*most);
+            calls.push(Call::run_each(shape.clone(), &case.text, budget));
         }
         for budget in 0..budgets(case) {
             let service = Service::Run(case.memory.clone(), budget);

@@ -1,4 +1,4 @@
-//! The three services on byte slices, as the archive gives them and as the oracle would.
+//! The four services on byte slices, as the archive gives them and as the oracle would.
 
 use oracle::Answer;
 
@@ -11,6 +11,15 @@ pub trait Services {
     fn judge(&self, text: &[u8], answer: &mut [u8]) -> u32;
     /// Runs the text over the memory.
     fn run(&self, text: &[u8], memory: &mut [u8], budget: u32, answer: &mut [u8]) -> u32;
+    /// Runs the text over each image.
+    fn run_each(
+        &self,
+        text: &[u8],
+        images: &mut [u8],
+        size: usize,
+        budget: u32,
+        answers: &mut [u8],
+    ) -> usize;
     /// Lists the text's variables into the table.
     fn variables(&self, text: &[u8], table: &mut [u8], answer: &mut [u8]) -> u32;
 }
@@ -25,6 +34,17 @@ impl Services for Archive {
 
     fn run(&self, text: &[u8], memory: &mut [u8], budget: u32, answer: &mut [u8]) -> u32 {
         ruihmento::services::run(text, memory, budget, answer)
+    }
+
+    fn run_each(
+        &self,
+        text: &[u8],
+        images: &mut [u8],
+        size: usize,
+        budget: u32,
+        answers: &mut [u8],
+    ) -> usize {
+        ruihmento::services::run_each(text, images, size, budget, answers)
     }
 
     fn variables(&self, text: &[u8], table: &mut [u8], answer: &mut [u8]) -> u32 {
@@ -50,6 +70,17 @@ impl Services for Oracle {
         write_answer(answer, oracle::run(text, memory, budget))
     }
 
+    fn run_each(
+        &self,
+        text: &[u8],
+        images: &mut [u8],
+        size: usize,
+        budget: u32,
+        answers: &mut [u8],
+    ) -> usize {
+        oracle::run_each(text, images, size, budget, answers)
+    }
+
     fn variables(&self, text: &[u8], table: &mut [u8], answer: &mut [u8]) -> u32 {
         if answer.len() < RECORD {
             return 0;
@@ -64,17 +95,11 @@ impl Services for Oracle {
 
 /// Writes the four numbers of an answer; gives the 1 that a service then returns.
 fn write_answer(answer: &mut [u8], numbers: Answer) -> u32 {
-    let Answer {
-        code,
-        place,
-        need,
-        steps,
-    } = numbers;
-    write_numbers(answer, [code, place, need, steps]);
+    answer[..RECORD].copy_from_slice(&numbers.to_bytes());
     1
 }
 
-/// Writes four 32-bit little-endian numbers; later bytes stay.
+/// Writes four 32-bit little-endian numbers.
 fn write_numbers(bytes: &mut [u8], numbers: [u32; 4]) {
     for (bytes, number) in bytes.chunks_exact_mut(4).zip(numbers) {
         bytes.copy_from_slice(&number.to_le_bytes());

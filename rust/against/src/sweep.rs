@@ -1,6 +1,6 @@
 //! Many cases on all processors, with counts of what they met.
 
-use crate::compare::{compare, smallest, Difference};
+use crate::compare::{compare, smallest, Difference, Made};
 use crate::plan::Plan;
 use generate::{mixed, Case, Sort};
 use std::collections::BTreeMap;
@@ -20,6 +20,8 @@ pub struct Tally {
     pub cases: u64,
     /// How many calls were made on each side.
     pub calls: u64,
+    /// How many images the calls of `run_each` ran on each side.
+    pub images: u64,
     /// How many cases each sort of text has.
     pub sorts: BTreeMap<&'static str, u64>,
     /// How many runs, each with its case's own memory and budget, gave each code.
@@ -28,11 +30,12 @@ pub struct Tally {
 
 impl Tally {
     /// Counts one case.
-    fn add(&mut self, sort: Sort, case: &Case, calls: u64) {
+    fn add(&mut self, sort: Sort, case: &Case, made: Made) {
         let name = Sort::ALL.iter().find(|(known, _)| *known == sort);
         let answer = ruihmento::run(&case.text, &mut case.memory.clone(), case.budget);
         self.cases += 1;
-        self.calls += calls;
+        self.calls += made.calls;
+        self.images += made.images;
         *self.sorts.entry(name.map_or("", |(_, n)| n)).or_default() += 1;
         *self.codes.entry(answer.code).or_default() += 1;
     }
@@ -41,6 +44,7 @@ impl Tally {
     fn join(&mut self, other: Tally) {
         self.cases += other.cases;
         self.calls += other.calls;
+        self.images += other.images;
         for (sort, count) in other.sorts {
             *self.sorts.entry(sort).or_default() += count;
         }
@@ -125,7 +129,7 @@ fn work(shared: &Shared) {
         }
         let (sort, case) = mixed(shared.seed, index);
         match compare(&case, &Plan::new(shared.seed, index)) {
-            Ok(calls) => tally.add(sort, &case, calls),
+            Ok(made) => tally.add(sort, &case, made),
             Err(_) => {
                 shared.differs.fetch_min(index, Ordering::Relaxed);
             }

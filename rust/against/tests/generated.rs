@@ -27,7 +27,11 @@ fn archive_and_independent_implementation_agree() {
         Ok(tally) => tally,
         Err(found) => panic!("{found}"),
     };
-    let _ = writeln!(std::io::stderr(), "{} calls on each side", tally.calls);
+    let (calls, images) = (tally.calls, tally.images);
+    let _ = writeln!(
+        std::io::stderr(),
+        "{calls} calls on each side, {images} images run by run_each"
+    );
     assert_eq!(tally.cases, cases);
     if cases >= 20_000 {
         for (_, sort) in Sort::ALL {
@@ -38,6 +42,7 @@ fn archive_and_independent_implementation_agree() {
             let count = tally.codes.get(&code).copied().unwrap_or(0);
             assert!(count >= 50, "code {code} occurs {count} times");
         }
+        assert!(images >= 100_000, "{images} images");
     }
     assert!(tally.codes.keys().all(|code| *code <= 13), "{tally:?}");
 }

@@ -1,10 +1,35 @@
 //! A call of the archive uses less than 256 KiB of stack, whatever the text.
 
-use generate::mixed;
-use ruihmento::{judge, run, variables};
+#[allow(dead_code)] // Its rooms alone are used here.
+mod pages;
+mod painted;
 
-/// The stack that a call may use, and a little for the thread itself.
-const STACK: usize = (256 + 16) * 1024;
+use generate::mixed;
+use ruihmento::services;
+use std::io::Write;
+
+/// The stack that a call may use.
+const MOST: usize = 256 * 1024;
+
+/// A little for a thread itself.
+const THREAD: usize = 16 * 1024;
+
+/// A service, called on this text with slices that suffice; the long ones are not on the stack.
+type Called = fn(&[u8]) -> usize;
+
+/// Every service by its name.
+const SERVICES: [(&str, Called); 4] = [
+    ("judge", |text| services::judge(text, &mut [0; 16]) as usize),
+    ("run", |text| {
+        services::run(text, &mut vec![1; 4096], 5_000, &mut [0; 16]) as usize
+    }),
+    ("run_each", |text| {
+        services::run_each(text, &mut vec![1; 9000], 4096, 5_000, &mut [0; 40])
+    }),
+    ("variables", |text| {
+        services::variables(text, &mut vec![0; 1024], &mut [0; 16]) as usize
+    }),
+];
 
 /// The text filled up to 4,096 bytes with as many of these as fit.
 fn filled(start: &str, again: &str, end: &str) -> Vec<u8> {
@@ -48,19 +73,37 @@ fn texts() -> Vec<Vec<u8>> {
     texts
 }
 
-/// Calls every service on the text.
-fn call(text: &[u8]) {
-    let _ = judge(text);
-    let _ = run(text, &mut [1; 4096], 5000);
-    let _ = variables(text);
+/// The texts above, and generated ones.
+fn all_texts() -> Vec<Vec<u8>> {
+    let generated = (0..3000).map(|index| mixed(5, index).1.text);
+    texts().into_iter().chain(generated).collect()
 }
 
 #[test]
 fn calls_fit_a_small_stack() {
-    let work = || {
-        texts().iter().for_each(|text| call(text));
-        (0..3000).for_each(|index| call(&mixed(5, index).1.text));
+    let texts = all_texts();
+    let work = move || {
+        for (name, service) in SERVICES {
+            texts
+                .iter()
+                .for_each(|text| assert!(service(text) > 0, "{name}"));
+        }
     };
-    let thread = std::thread::Builder::new().stack_size(STACK);
+    let thread = std::thread::Builder::new().stack_size(MOST + THREAD);
     thread.spawn(work).unwrap().join().unwrap();
+}
+
+#[test]
+fn painted_stacks_stay_painted_below() {
+    let texts = all_texts();
+    for (name, service) in SERVICES {
+        let mut returned = 0;
+        let used = painted::used(&mut || {
+            returned = texts.iter().map(|text| service(text)).sum();
+        });
+        // Past the capture of tests, so that the figures are on record.
+        let _ = writeln!(std::io::stderr(), "{name}: {used} bytes of stack");
+        assert!(used < MOST, "{name}");
+        assert!(returned >= texts.len(), "{name}");
+    }
 }

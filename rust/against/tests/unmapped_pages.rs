@@ -1,10 +1,10 @@
-//! Text, memory, table and answer flush against pages that may not be touched: a byte read or
-//! written outside them ends the program. The text's own pages may only be read.
+//! Text, memory, images, table and answer flush against pages that may not be touched: a byte read
+//! or written outside them ends the program. The text's own pages may only be read.
 
 mod pages;
 
 use against::{Archive, Call, Oracle, Plan, Service};
-use generate::mixed;
+use generate::{mixed, Random, Shape};
 use pages::{Flush, Room, Watch, PAGE};
 
 /// The seed of the generated cases.
@@ -78,6 +78,8 @@ fn a_text_that_ends_anywhere_is_not_read_further() {
     assert!(ruihmento::judge(text).is_accepted());
     for length in 0..=text.len() {
         watch.tries(format!("the first {length} bytes of every token"));
+        let shape = Shape::few(&mut Random::new(SEED, length as u64));
+        rooms.check_both(&text[..length], &Call::run_each(shape, &text[..length], 50));
         for service in [
             Service::Judge,
             Service::Run(vec![7; 200], 50),
@@ -108,6 +110,20 @@ fn whole_pages_are_flush_on_both_sides() {
             answer: 16,
         },
     );
+}
+
+/// Images that fill their pages touch such pages on both sides at once, and so do the answers.
+#[test]
+fn images_and_answers_may_fill_their_pages() {
+    let text = "int block[16] a; int block[16] b = 3; if (a < b) a = a + b; else b = a;";
+    let size = ruihmento::judge(text.as_bytes()).need;
+    assert_eq!(PAGE % size, 0);
+    let mut watch = Watch::new();
+    watch.tries("images of whole pages".into());
+    let shape = Shape::whole(PAGE / size * 8, SEED);
+    let call = Call::run_each(shape, text.as_bytes(), 1_000);
+    assert_eq!((call.bytes_before().len(), call.answer), (8 * PAGE, PAGE));
+    Rooms::new(1).check_both(text.as_bytes(), &call);
 }
 
 #[test]

@@ -1,11 +1,13 @@
 //! Seeded generators of cases (a text, a memory, a budget) to test lane runners with.
 //!
 //! [`mixed`] gives case after case from a seed; [`case`] gives one of a chosen [`Sort`];
-//! [`narrow`] makes one lane a program of its own, and [`shrink`] makes a failing case smaller.
+//! A [`Shape`] makes many images of a case's text. [`narrow`] makes one lane a program of its own,
+//! and [`shrink`] makes a failing case smaller.
 #![forbid(unsafe_code)]
 #![warn(missing_docs)]
 
 mod any_typed;
+mod batches;
 mod damage;
 mod expression;
 mod layout;
@@ -19,6 +21,7 @@ mod shrink;
 mod soup;
 mod well_typed;
 
+pub use batches::{Batch, Shape};
 pub use memories::{budget_for, memory_for};
 pub use narrow::{lane_bytes, narrow, narrow_memory};
 pub use pieces::{pieces, Piece};

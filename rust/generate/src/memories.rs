@@ -1,6 +1,7 @@
 //! Memories and budgets for a text.
 
 use crate::random::Random;
+use oracle::Row;
 
 /// A memory for this text: mostly as long as it needs, at times longer or shorter.
 pub fn memory_for(text: &[u8], random: &mut Random) -> Vec<u8> {
@@ -14,11 +15,16 @@ pub fn memory_for(text: &[u8], random: &mut Random) -> Vec<u8> {
         7..=12 if need == 0 => random.below(70),
         _ => need,
     };
+    memory_of(&listed.rows, length, random)
+}
+
+/// A memory of this length, with values in the lanes of these variables that lie in it.
+pub(crate) fn memory_of(rows: &[Row], length: usize, random: &mut Random) -> Vec<u8> {
     let mut memory: Vec<u8> = match random.below(3) {
         0 => vec![0xaa; length],
         _ => (0..length).map(|_| random.byte()).collect(),
     };
-    for row in &listed.rows {
+    for row in rows {
         for lane in 0..row.length as usize {
             let size = if row.kind == 0 { 4 } else { 1 };
             let at = row.address as usize + lane * size;

@@ -1,5 +1,8 @@
 //! Document 01, "Codes": the four numbers, and how a refusal reaches them.
 
+/// What is built: "16 bytes, into which code, place, need, steps are written".
+pub const ANSWER: usize = 16;
+
 /// What is built: "Each answers four numbers: code, place (a byte offset in the text), need
 /// (bytes of memory), steps."
 #[derive(Clone, Copy, Debug, PartialEq, Eq)]
@@ -65,6 +68,17 @@ impl Refusal {
 }
 
 impl Answer {
+    /// What is built: "code, place, need, steps are written as four 32-bit little-endian
+    /// numbers".
+    pub fn to_bytes(self) -> [u8; ANSWER] {
+        let mut bytes = [0; ANSWER];
+        let numbers = [self.code, self.place, self.need, self.steps];
+        for (bytes, number) in bytes.chunks_exact_mut(4).zip(numbers) {
+            bytes.copy_from_slice(&number.to_le_bytes());
+        }
+        bytes
+    }
+
     /// Codes: "Code 0: need given, steps as taken."
     pub(crate) fn ended(need: u32, steps: u32) -> Self {
         Answer {

@@ -1,4 +1,5 @@
-//! An independent judge and runner for lane routines, written from document 01 alone.
+//! An independent judge and runner for lane routines, written from document 01 alone (and
+//! [`run_each`] from the sentence that it quotes).
 //!
 //! A text passes one module after another: `tokens`, `reading` into a `tree`, `typing` into a
 //! `program` with its addresses from `memory`, then `running` on `lanes`.
@@ -17,7 +18,7 @@ mod tree;
 mod typing;
 mod watching;
 
-pub use answer::{Answer, Code};
+pub use answer::{Answer, Code, ANSWER};
 pub use program::{Program, Row};
 pub use watching::Watched;
 
@@ -35,6 +36,29 @@ pub fn run(text: &[u8], memory: &mut [u8], budget: u32) -> Answer {
         Ok(program) => program.run(memory, budget),
         Err(refused) => refused,
     }
+}
+
+/// Run each: "Image k is the bytes from k·size to (k+1)·size, its answer the 16 bytes at 16·k. It
+/// runs as many images as stand whole in `images` and in `answers` (none where size is 0), answers
+/// how many, and leaves image k and answer k exactly as `run` would [...]; every other byte
+/// stays."
+pub fn run_each(
+    text: &[u8],
+    images: &mut [u8],
+    size: usize,
+    budget: u32,
+    answers: &mut [u8],
+) -> usize {
+    if size == 0 {
+        return 0;
+    }
+    let mut count = 0;
+    let whole = images.chunks_exact_mut(size);
+    for (image, bytes) in whole.zip(answers.chunks_exact_mut(ANSWER)) {
+        bytes.copy_from_slice(&run(text, image, budget).to_bytes());
+        count += 1;
+    }
+    count
 }
 
 /// Memory: "Every declaration in the text has an address of its own, in text order", listed.

@@ -9,12 +9,13 @@
  *  - A slice is passed as a pointer and the number of its bytes. Any number
  *    of bytes will do; the pointer of a slice of 0 bytes is never followed,
  *    but must not be NULL.
- *  - The slices of one call must not overlap. Only memory, table and answer
- *    are written, and nothing is kept when the call returns.
- *  - The answer is four 32-bit little-endian numbers in the first 16 bytes of
- *    the answer slice; its later bytes stay. The call then returns 1. Where
- *    the answer slice is shorter than 16 bytes the call returns 0, and
- *    nothing else happens.
+ *  - The slices of one call must not overlap. The text is never written, and
+ *    nothing is kept when the call returns.
+ *  - An answer is four 32-bit little-endian numbers, 16 bytes. It goes into
+ *    the first 16 bytes of the answer slice, whose later bytes stay, and the
+ *    call returns 1. Where the answer slice is shorter than 16 bytes the call
+ *    returns 0, and nothing else happens. (ruihmento_run_each writes many
+ *    answers, and returns how many.)
  *  - Nothing is allocated, and a call uses less than 256 KiB of stack,
  *    whatever the text. Calls on different slices may be made from several
  *    threads.
@@ -79,6 +80,29 @@ uint32_t ruihmento_run(const uint8_t *text, size_t text_len,
                        uint8_t *memory, size_t memory_len,
                        uint32_t budget,
                        uint8_t *answer, size_t answer_len);
+
+/*
+ * Judges a text once, then runs it over each of many images, each as
+ * ruihmento_run would over that image alone; returns how many were run.
+ *
+ *   text      the program's text
+ *   images    the memories side by side: image k is the bytes from k * size
+ *             to (k + 1) * size
+ *   size      the bytes of one image; where they are fewer than the text
+ *             needs, each image is answered code 12
+ *   budget    the most steps of each image; none takes from another's
+ *   answers   takes the answer of image k into the 16 bytes from 16 * k on
+ *
+ * As many images are run as stand whole in `images` and have room for their
+ * answer in `answers`; none where `size` is 0. Every other byte of both stays.
+ * A text that is refused gives each image its refusal, and changes no byte of
+ * `images`. What one image holds, and how it ends, is nothing to another.
+ */
+size_t ruihmento_run_each(const uint8_t *text, size_t text_len,
+                          uint8_t *images, size_t images_len,
+                          size_t size,
+                          uint32_t budget,
+                          uint8_t *answers, size_t answers_len);
 
 /*
  * Judges a text and lists where its variables lie in memory.

@@ -2,11 +2,12 @@
 
 use crate::{Refusal, Stopped};
 
-/// The length of an answer slice in bytes, and of a record of the table of variables.
-pub(crate) const RECORD: usize = 16;
+/// The bytes of one answer: four 32-bit little-endian numbers.
+pub const ANSWER_BYTES: usize = 16;
 
-/// An answer slice before the call: as numbers these bytes are no answer, least of all code 0.
-const UNANSWERED: [u8; RECORD] = [0xff; RECORD];
+/// Each byte of an answer slice before the call: as numbers these are no answer, least of all
+/// code 0.
+pub(crate) const UNANSWERED: u8 = 0xff;
 
 /// The four numbers that a judgement or a run answers.
 #[derive(Clone, Copy, Debug, PartialEq, Eq, Hash)]
@@ -35,16 +36,36 @@ pub struct Ended {
 impl Answer {
     /// The answer that this call writes into the slice that it is lent.
     pub(crate) fn of(call: impl FnOnce(&mut [u8]) -> u32) -> Self {
-        let mut bytes = UNANSWERED;
+        let mut bytes = [UNANSWERED; ANSWER_BYTES];
         let returned = call(&mut bytes);
         debug_assert_eq!(returned, 1, "16 bytes are room for an answer");
-        let [code, place, need, steps] = four_numbers(&bytes);
+        Answer::read(&bytes)
+    }
+
+    /// The answer in the first 16 of these bytes.
+    fn read(bytes: &[u8]) -> Self {
+        let [code, place, need, steps] = four_numbers(bytes);
         Answer {
             code,
             place: place as usize,
             need: need as usize,
             steps,
         }
+    }
+
+    /// The answers that [`run_each`](crate::run_each) left in this slice, one for each
+    /// [`ANSWER_BYTES`] bytes; bytes behind the last whole one are none.
+    ///
+    /// ```
+    /// use ruihmento::Answer;
+    ///
+    /// let mut answers = [0; 40];
+    /// let count = ruihmento::run_each(b"int x = 7;", &mut [0; 12], 4, 9, &mut answers);
+    /// let steps: u32 = Answer::list(&answers).take(count).map(|answer| answer.steps).sum();
+    /// assert_eq!((count, steps), (2, 2));
+    /// ```
+    pub fn list(answers: &[u8]) -> impl ExactSizeIterator<Item = Answer> + '_ {
+        answers.chunks_exact(ANSWER_BYTES).map(Answer::read)
     }
 
     /// Whether the text was accepted, or the run came to its end: code 0.

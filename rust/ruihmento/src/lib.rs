@@ -26,10 +26,13 @@
 //! println!("{refused}");
 //! ```
 //!
-//! Below it are the three calls on texts, [`judge`], [`run`] and [`variables`], and below these
-//! the same on byte slices as the archive exports them, in [`services`]. They call the proved
-//! archive and do nothing else; none of them can fail otherwise than by a [`Refusal`], whatever
-//! bytes they are given.
+//! Many memories side by side, as a recording has them, are run in one call, which judges the text
+//! once: [`Routine::run_each`].
+//!
+//! Below it are the four calls on texts, [`judge`], [`run`], [`run_each`] and [`variables`], and
+//! below these the same on byte slices as the archive exports them, in [`services`]. They call the
+//! proved archive and do nothing else; none of them can fail otherwise than by a [`Refusal`],
+//! whatever bytes they are given.
 //!
 //! # Stack and threads
 //!
@@ -56,7 +59,7 @@ mod routine;
 pub mod services;
 mod variables;
 
-pub use answer::{Answer, Ended};
+pub use answer::{Answer, Ended, ANSWER_BYTES};
 pub use kind::{Kind, Lanes};
 pub use misfit::Misfit;
 pub use refusal::{Refusal, Refused, Stopped};
@@ -95,6 +98,48 @@ pub fn judge(text: &[u8]) -> Answer {
 /// ```
 pub fn run(text: &[u8], memory: &mut [u8], budget: u32) -> Answer {
     Answer::of(|answer| services::run(text, memory, budget, answer))
+}
+
+/// Judges a text once and runs it over each of many images, as [`run`] would over each alone;
+/// gives how many were run.
+///
+/// - `text` is the program's text, any bytes.
+/// - `images` has the memories side by side: image k is its bytes from k·size to (k+1)·size.
+/// - `size` is the length of one image in bytes. Where it is less than the text needs, each image
+///   is answered code 12; where it is more, the bytes behind the variables stay.
+/// - `budget` is the most steps that each image may take; none takes from another's.
+/// - `answers` takes the answer of image k into its [`ANSWER_BYTES`] bytes from 16·k on;
+///   [`Answer::list`] reads them.
+///
+/// As many images are run as stand whole in `images` and have room for their answer in `answers`;
+/// none where `size` is 0. Every other byte of both slices stays. A text that is refused gives
+/// each image its refusal and changes no byte of them. How one image ends, and what it holds, is
+/// nothing to another. Slices of any length and any size will do.
+///
+/// ```
+/// use ruihmento::{run_each, Answer, ANSWER_BYTES};
+///
+/// let mut images = [1, 0, 0, 0, 200, 0, 0, 0, 0, 0, 0, 0, 9, 9];
+/// let mut answers = [0; 3 * ANSWER_BYTES];
+/// let count = run_each(b"int n; while (0 < n) n = n - 1;", &mut images, 4, 100, &mut answers);
+/// assert_eq!(count, 3);
+/// assert_eq!(images, [0, 0, 0, 0, 151, 0, 0, 0, 0, 0, 0, 0, 9, 9]);
+/// let ends = Answer::list(&answers).map(|answer| (answer.code, answer.steps));
+/// assert!(ends.eq([(0, 4), (13, 100), (0, 2)]));
+///
+/// let count = run_each(b"int n", &mut images, 4, 100, &mut answers[..20]);
+/// assert_eq!(count, 1);
+/// assert_eq!(Answer::list(&answers).next().map(|answer| answer.code), Some(3));
+/// ```
+#[must_use = "fewer images may have been run than were lent"]
+pub fn run_each(
+    text: &[u8],
+    images: &mut [u8],
+    size: usize,
+    budget: u32,
+    answers: &mut [u8],
+) -> usize {
+    services::run_each(text, images, size, budget, answers)
 }
 
 /// Lists where the variables of an accepted text lie, one for each declaration in text order.

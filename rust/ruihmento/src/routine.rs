@@ -1,8 +1,9 @@
 //! A text that is accepted, with its variables.
 
+use crate::answer::UNANSWERED;
 use crate::nearest::nearest;
 use crate::variables::{declared, Declared};
-use crate::{Ended, Misfit, Refused, Stopped, Variable};
+use crate::{Answer, Ended, Misfit, Refused, Stopped, Variable, ANSWER_BYTES};
 
 /// An accepted text that owns what a collector keeps of it: the text, its need and its variables.
 ///
@@ -129,10 +130,12 @@ impl Routine {
     }
 
     /// Runs the routine over each image of `size` bytes, each for at most `budget` steps, and
-    /// says of each how that went.
+    /// says of each how that went. The text is judged once for all of them.
     ///
-    /// Image k is the bytes from k·size to (k+1)·size; bytes after the last whole image stay. A
-    /// run of one image is not affected by what another holds, or by how it ends.
+    /// Image k is the bytes from k·size to (k+1)·size; bytes after the last whole image stay, and
+    /// there is no image where `size` is 0. A run of one image is not affected by what another
+    /// holds, or by how it ends. Where `size` is less than [`Routine::need`], each image is
+    /// [`Refusal::MemoryTooShort`](crate::Refusal::MemoryTooShort), and no byte changes.
     ///
     /// ```
     /// let routine = ruihmento::Routine::new("int n; while (0 < n) n = n - 1;")?;
@@ -151,11 +154,35 @@ impl Routine {
         size: usize,
         budget: u32,
     ) -> Vec<Result<Ended, Stopped>> {
-        if size == 0 {
-            return Vec::new();
-        }
-        let images = images.chunks_exact_mut(size);
-        images.map(|image| self.run(image, budget)).collect()
+        let count = images.len().checked_div(size).unwrap_or(0);
+        let mut answers = vec![UNANSWERED; count * ANSWER_BYTES];
+        let ends = self.run_each_into(images, size, budget, &mut answers);
+        ends.collect()
+    }
+
+    /// The same without an allocation, for a collector that lends the room for the answers: 16
+    /// bytes an image, [`ANSWER_BYTES`]. Where there is room for fewer, fewer images are run.
+    ///
+    /// It gives one end for each image that was run. They are run whether or not the ends are
+    /// looked at, and the answers stay in the slice, where [`Answer::list`] reads them again.
+    ///
+    /// ```
+    /// let routine = ruihmento::Routine::new("int n; n = n + 1;")?;
+    /// let (mut images, mut answers) = ([0; 12], [0; 32]);
+    /// let ends = routine.run_each_into(&mut images, routine.need(), 100, &mut answers);
+    /// assert_eq!(ends.len(), 2);
+    /// assert_eq!(images, [1, 0, 0, 0, 1, 0, 0, 0, 0, 0, 0, 0]);
+    /// # Ok::<(), ruihmento::Refused>(())
+    /// ```
+    pub fn run_each_into<'a>(
+        &self,
+        images: &mut [u8],
+        size: usize,
+        budget: u32,
+        answers: &'a mut [u8],
+    ) -> impl ExactSizeIterator<Item = Result<Ended, Stopped>> + 'a {
+        let count = crate::run_each(&self.text, images, size, budget, answers);
+        Answer::list(answers).take(count).map(Answer::into_result)
     }
 
     /// There is no variable of this name.

@@ -1,11 +1,12 @@
-//! The archive's three services as they are: byte slices in, 1 or 0 out.
+//! The archive's four services as they are, on byte slices.
 //!
 //! This is the only module with unsafe code. Each service takes slices of any length, so these
 //! functions are safe: Rust's slices are valid, and a `&mut` slice overlaps no other.
 //!
-//! Each returns 1, or 0 where the answer slice is shorter than 16 bytes; then nothing else
-//! happens. Otherwise the first 16 bytes of the answer take four 32-bit little-endian numbers,
-//! and its later bytes stay.
+//! [`judge`], [`run`] and [`variables`] return 1, or 0 where the answer slice is shorter than 16
+//! bytes; then nothing else happens. Otherwise the first 16 bytes of the answer take four 32-bit
+//! little-endian numbers, and its later bytes stay. [`run_each`] writes such an answer for each
+//! image that it runs, and returns how many these are.
 #![allow(unsafe_code)]
 
 extern "C" {
@@ -20,6 +21,16 @@ extern "C" {
         answer: *mut u8,
         answer_len: usize,
     ) -> u32;
+    fn ruihmento_run_each(
+        text: *const u8,
+        text_len: usize,
+        images: *mut u8,
+        images_len: usize,
+        size: usize,
+        budget: u32,
+        answers: *mut u8,
+        answers_len: usize,
+    ) -> usize;
     fn ruihmento_variables(
         text: *const u8,
         text_len: usize,
@@ -50,6 +61,30 @@ pub fn run(text: &[u8], memory: &mut [u8], budget: u32, answer: &mut [u8]) -> u3
             budget,
             answer.as_mut_ptr(),
             answer.len(),
+        )
+    }
+}
+
+/// Judges the text once and runs it over each image: what [`crate::run_each`] says.
+#[must_use = "fewer images may have been run than were lent"]
+pub fn run_each(
+    text: &[u8],
+    images: &mut [u8],
+    size: usize,
+    budget: u32,
+    answers: &mut [u8],
+) -> usize {
+    // SAFETY: the pointers and lengths are those of slices that live through the call.
+    unsafe {
+        ruihmento_run_each(
+            text.as_ptr(),
+            text.len(),
+            images.as_mut_ptr(),
+            images.len(),
+            size,
+            budget,
+            answers.as_mut_ptr(),
+            answers.len(),
         )
     }
 }

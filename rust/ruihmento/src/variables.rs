@@ -1,11 +1,14 @@
 //! Where a text's variables lie in the memory, and their values.
 
-use crate::answer::{four_numbers, RECORD};
+use crate::answer::four_numbers;
 use crate::{services, Answer, Kind, Lanes, Misfit, Refusal, Refused};
 use std::ops::Range;
 
 /// The most declarations that a text may have.
 const MOST_DECLARATIONS: usize = 64;
+
+/// The bytes of one record of the table of variables.
+const RECORD: usize = 16;
 
 /// The variables of an accepted text.
 #[derive(Clone, Debug, PartialEq, Eq)]

@@ -1,6 +1,7 @@
 //! The calls on texts: codes and their words, the listing of variables, values in memory.
 
-use ruihmento::{judge, run, services, variables, Kind, Lanes, Misfit, Refusal};
+use ruihmento::{judge, run, run_each, services, variables};
+use ruihmento::{Answer, Kind, Lanes, Misfit, Refusal};
 
 /// Texts that the judge refuses with codes 1 to 11, in this order.
 fn refused_texts() -> [String; 11] {
@@ -159,4 +160,43 @@ fn a_short_answer_slice_leaves_everything() {
     assert_eq!(services::run(b"int x = 1;", &mut memory, 9, &mut answer), 0);
     assert_eq!(services::variables(b"int x;", &mut table, &mut answer), 0);
     assert_eq!((memory, table, answer), ([7; 4], [7; 16], [7; 15]));
+}
+
+#[test]
+fn a_refused_text_gives_each_image_its_refusal() {
+    for text in refused_texts() {
+        let alone = run(text.as_bytes(), &mut [], 9);
+        let (mut images, mut answers) = ([7; 25], [7; 55]);
+        assert_eq!(
+            run_each(text.as_bytes(), &mut images, 8, 9, &mut answers),
+            3
+        );
+        assert!(Answer::list(&answers).eq([alone; 3]), "{text}");
+        assert_eq!((images, &answers[48..]), ([7; 25], &[7; 7][..]));
+    }
+}
+
+#[test]
+fn an_image_shorter_than_need_is_code_12() {
+    for size in 1..4 {
+        let (mut images, mut answers) = ([7; 12], [7; 200]);
+        let count = run_each(b"int x = 1;", &mut images, size, 9, &mut answers);
+        assert_eq!(count, 12 / size);
+        let short = run(b"int x = 1;", &mut [0; 3], 9);
+        assert!(Answer::list(&answers).take(count).all(|one| one == short));
+        assert_eq!(images, [7; 12]);
+    }
+}
+
+#[test]
+fn sizes_and_slices_that_hold_no_image_leave_everything() {
+    let text = b"int x = 1;";
+    for size in [0, 13, 1 << 32, usize::MAX / 16, usize::MAX - 1, usize::MAX] {
+        let (mut images, mut answers) = ([7; 12], [7; 64]);
+        assert_eq!(run_each(text, &mut images, size, 9, &mut answers), 0);
+        assert_eq!((images, answers), ([7; 12], [7; 64]));
+    }
+    assert_eq!(run_each(text, &mut [], 4, 9, &mut [7; 64]), 0);
+    assert_eq!(run_each(text, &mut [7; 12], 4, 9, &mut []), 0);
+    assert_eq!(run_each(text, &mut [], 0, 0, &mut []), 0);
 }

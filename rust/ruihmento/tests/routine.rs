@@ -1,6 +1,6 @@
 //! A routine that owns its text: by name, over one memory and over many.
 
-use ruihmento::{Kind, Misfit, Refusal, Routine};
+use ruihmento::{Kind, Misfit, Refusal, Routine, ANSWER_BYTES};
 
 /// Document 01's routine.
 const ROUTINE: &str = "bool block[4] ok; int block[4] s; int block[4] t = 10; \
@@ -117,11 +117,30 @@ fn each_image_is_run_as_if_alone() {
         let alone = one_by_one.chunks_exact_mut(size);
         let alone: Vec<_> = alone.map(|image| routine.run(image, 7)).collect();
         assert_eq!(alone.len(), 3);
+        let mut again = images.clone();
         assert_eq!(routine.run_each(&mut images, size, 7), alone);
         assert_eq!(images, one_by_one);
+        let mut answers = [0; 3 * ANSWER_BYTES];
+        let ends = routine.run_each_into(&mut again, size, 7, &mut answers);
+        assert!(ends.eq(alone));
+        assert_eq!(again, one_by_one);
     }
     assert_eq!(routine.run_each(&mut [0; 47], 48, 7), []);
     assert_eq!(routine.run_each(&mut [0; 47], 0, 7), []);
+}
+
+#[test]
+fn no_image_is_run_without_room_for_its_answer() {
+    let (routine, image) = routine();
+    for room in [0, 15, 16, 31, 32, 47, 48, 100] {
+        let (mut images, mut answers) = (image.repeat(3), vec![0x5a; room]);
+        let whole = (room / ANSWER_BYTES).min(3);
+        let ends = routine.run_each_into(&mut images, 48, 1_000, &mut answers);
+        assert_eq!(ends.len(), whole);
+        assert!(ends.eq(vec![routine.run(&mut image.clone(), 1_000); whole]));
+        assert_eq!(images[48 * whole..], image.repeat(3 - whole));
+        assert!(answers[16 * whole..].iter().all(|byte| *byte == 0x5a));
+    }
 }
 
 #[test]

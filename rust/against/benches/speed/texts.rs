@@ -65,8 +65,29 @@ fn samples(length: usize) -> impl Iterator<Item = u8> {
     (0..length).flat_map(|lane| [4i32, 7, 25, 90][lane % 4].to_le_bytes())
 }
 
-/// This text over and over behind a start, filled up with spaces to 4,096 bytes.
-pub fn filled(start: &str, again: &str, end: &str) -> String {
-    let times = (4096 - start.len() - end.len()) / again.len();
-    format!("{:4096}", format!("{start}{}{end}", again.repeat(times)))
+/// Counts down in every lane at once: 2·turns + 2 steps.
+pub fn countdown(length: usize, turns: usize) -> String {
+    format!("int block[{length}] n = {turns}; while (0 < n) n = n - 1;")
+}
+
+/// Each lane adds up the numbers from its own down to one.
+pub fn sum(length: usize) -> String {
+    format!(
+        "int block[{length}] n; int block[{length}] a = 0; \
+         while (0 < n) {{ a = a + n; n = n - 1; }}"
+    )
+}
+
+/// The memory of `sum`: 10, 20, 30 .., so that the lanes leave the loop one by one.
+pub fn counters(length: usize) -> Vec<u8> {
+    let counters = (1..=length as i32).map(|lane| 10 * lane);
+    let mut memory: Vec<u8> = counters.flat_map(i32::to_le_bytes).collect();
+    memory.resize(8 * length, 0xaa);
+    memory
+}
+
+/// This text over and over behind a start, filled up with spaces to so many bytes.
+pub fn filled(bytes: usize, start: &str, again: &str, end: &str) -> String {
+    let times = (bytes - start.len() - end.len()) / again.len();
+    format!("{:bytes$}", format!("{start}{}{end}", again.repeat(times)))
 }

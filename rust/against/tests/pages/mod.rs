@@ -60,9 +60,12 @@ impl Room {
         Room { before, bytes }
     }
 
-    /// These bytes, flush against a page that may not be touched.
+    /// These bytes, flush against a page that may not be touched. A room that is too small becomes
+    /// one of as many pages as they take.
     pub fn lend(&mut self, bytes: &[u8], flush: Flush) -> &mut [u8] {
-        assert!(bytes.len() <= self.bytes, "{} bytes", bytes.len());
+        if bytes.len() > self.bytes {
+            *self = Room::new((bytes.len() + PAGE - 1) / PAGE);
+        }
         self.protect(PROT_READ | PROT_WRITE);
         let offset = match flush {
             Flush::Front => 0,
