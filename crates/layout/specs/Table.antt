@@ -62,7 +62,7 @@ unfoldable pub entries : List ℕ → List ℕ → ℕ → Declarations
 entries text table zero = []
 entries text table (suc n) = entries text table n ++ (entry text table n ∷ [])
 
--- What a run needs of a table: the kind, the length and the address of each of the declarations Γ.
+-- What a plan is made from, of a table: the kind, the length and the address of each of the declarations Γ.
 pub record Lies (table : List ℕ) (Γ : Declarations) : Type 0 where
   pub room : length Γ * row-words ≤ length table
   pub kind : (i : ℕ) → i < length Γ → kind-of (word-of table i kind-column) ≡ (declared Γ i) .kind

@@ -1,6 +1,6 @@
 -- How a lent buffer of words holds a tree. Words come in units of three. A tag is the number of a token (`the "if"`).
 --
--- An expression is a unit for each node, operands before their operator: the order in which it is typed and evaluated.
+-- An expression is a unit for each node, operands before their operator: the order in which it is typed and planned.
 -- A statement is its head, then its parts one after another. The head begins with its tag, the place of its first token and how
 -- many words follow these three, so that the next statement is found without a look at the parts.
 use Prim.Native.Nat.{ℕ, _+_}

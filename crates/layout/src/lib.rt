@@ -1,4 +1,5 @@
-// How lent buffers hold things, and every number of that: tokens, trees and programs, declarations, the stack of typing, instructions.
+// How lent buffers hold things, and every number of that: tokens, trees and programs, declarations, instructions, the stacks of
+// typing and of planning.
 pub mod head;
 pub mod instruction;
 pub mod limit;

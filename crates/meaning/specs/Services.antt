@@ -1,4 +1,5 @@
--- Document 01, "What is built": judge, run and the listing of variables, from bytes to numbers and bytes.
+-- Document 01, "What is built": judge and run, from bytes to numbers and bytes. Beside them the listing of variables and run_each, which is
+-- quoted from its request (docs/DECISIONS.md, points 8 and 14).
 use Prim.Native.Nat.{ℕ, zero, suc, _*_, _-_, _/_, min}
 use mathlib.Core.Path.{_≡_}
 use mathlib.Core.Bool.{true}

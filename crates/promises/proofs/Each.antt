@@ -3,6 +3,7 @@ use Prim.Native.Nat.{ℕ, _*_, _^_, _≤_, _<_}
 use mathlib.Core.Path.{_≡_, refl, sym, _∙_}
 use mathlib.Core.List.{List, [], append-nil}
 use native.Mathlib.Omega.{arith}
+use native.Mathlib.Nat.{le-div-iff-mul-le}
 use lib.ListN.{length, drop, length-drop, drop-of-length-le}
 use lib.Seq.{length-take-le}
 use borrow.Author.Tests.{le-leb}
@@ -24,6 +25,15 @@ use Rattle.promises.proofs.Outside.{run-long}
 length-piece : {k n : ℕ} (size : ℕ) (l : List ℕ) → k < n → n * size ≤ length l → length (piece size k l) ≡ size
 unfolding piece
 length-piece {k} size l h fits = length-take-le size (drop (k * size) l) (simp length-drop (omega (arith, piece-fits size (length l) h fits)))
+
+-- As many as stand whole, and no fewer; none of size 0.
+most-images : (size : ℕ) (images answers : List ℕ) (m : ℕ) → 0 < size → m * size ≤ length images → m * answer-bytes ≤ length answers → m ≤ how-many size images answers
+unfolding how-many
+most-images size images answers m h p q = rw (le-leb 1 size h) (omega (arith, le-div-iff-mul-le h .1 p))
+
+no-images : (size : ℕ) (images answers : List ℕ) → size ≡ 0 → how-many size images answers ≡ 0
+unfolding how-many
+no-images size images answers e = rw e
 
 -- A run whose answer slice has just the bytes of an answer.
 kept-alone : (text : List ℕ) (M : Memory) (budget : ℕ) (slice : List ℕ) {slice′ : List ℕ} {M′ : Memory} → length slice ≡ answer-bytes → slice′ ≡ in-a-row (numbers ((run text M budget) .0)) → M′ ≡ (run text M budget) .1
@@ -47,6 +57,10 @@ module _ (text images : List ℕ) (size budget : ℕ) (answers : List ℕ) {retu
       let answers-fit = whole-answers size images answers in
       rw (kept .returns, kept .slice-is, kept .lent-is) (record {
         how = refl;
+        images-fit = images-fit;
+        answers-fit = answers-fit;
+        most = most-images size images answers;
+        none = no-images size images answers;
         as-run = λ k h. kept-alone text (piece size k images) budget (piece answer-bytes k answers) (length-piece answer-bytes answers h answers-fit)
             (each-answer by size n k images answers h) (each-image by keeps size n k images answers images-fit h);
         images-behind = I.images-behind by keeps size n images answers images-fit;
