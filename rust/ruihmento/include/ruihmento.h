@@ -17,8 +17,8 @@
  *    returns 0, and nothing else happens. (ruihmento_run_each writes many
  *    answers, and returns how many.)
  *  - Nothing is allocated, and a call uses less than 256 KiB of stack,
- *    whatever the text. Calls on different slices may be made from several
- *    threads.
+ *    whatever the text (measured by a test, not proved). Calls on different
+ *    slices may be made from several threads.
  *
  * The four numbers are code, place, need and steps:
  *
@@ -88,13 +88,15 @@ uint32_t ruihmento_run(const uint8_t *text, size_t text_len,
  *   text      the program's text
  *   images    the memories side by side: image k is the bytes from k * size
  *             to (k + 1) * size
- *   size      the bytes of one image; where they are fewer than the text
- *             needs, each image is answered code 12
+ *   size      the bytes of one image; where they are fewer than an accepted
+ *             text needs, each image is answered code 12
  *   budget    the most steps of each image; none takes from another's
  *   answers   takes the answer of image k into the 16 bytes from 16 * k on
  *
  * As many images are run as stand whole in `images` and have room for their
  * answer in `answers`; none where `size` is 0. Every other byte of both stays.
+ * Where none is run 0 is returned, of a refused text as of an accepted one: ask
+ * ruihmento_judge. A text that needs no memory wants a `size` of 1 or more too.
  * A text that is refused gives each image its refusal, and changes no byte of
  * `images`. What one image holds, and how it ends, is nothing to another.
  */

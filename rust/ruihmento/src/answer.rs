@@ -53,8 +53,9 @@ impl Answer {
         }
     }
 
-    /// The answers that [`run_each`](crate::run_each) left in this slice, one for each
-    /// [`ANSWER_BYTES`] bytes; bytes behind the last whole one are none.
+    /// The answers in this slice, one for each [`ANSWER_BYTES`] bytes; bytes behind the last whole
+    /// one are none. Only the first `count` that [`run_each`](crate::run_each) gave are answers:
+    /// take no more, since bytes of 0 behind them read as code 0.
     ///
     /// ```
     /// use ruihmento::Answer;

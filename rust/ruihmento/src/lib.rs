@@ -112,7 +112,8 @@ pub fn run(text: &[u8], memory: &mut [u8], budget: u32) -> Answer {
 ///   [`Answer::list`] reads them.
 ///
 /// As many images are run as stand whole in `images` and have room for their answer in `answers`;
-/// none where `size` is 0. Every other byte of both slices stays. A text that is refused gives
+/// none where `size` is 0. Where none is run the count is 0, of a refused text as of an accepted
+/// one: [`judge`] tells them apart. Every other byte of both slices stays. A text that is refused gives
 /// each image its refusal and changes no byte of them. How one image ends, and what it holds, is
 /// nothing to another. Slices of any length and any size will do.
 ///
@@ -124,7 +125,7 @@ pub fn run(text: &[u8], memory: &mut [u8], budget: u32) -> Answer {
 /// let count = run_each(b"int n; while (0 < n) n = n - 1;", &mut images, 4, 100, &mut answers);
 /// assert_eq!(count, 3);
 /// assert_eq!(images, [0, 0, 0, 0, 151, 0, 0, 0, 0, 0, 0, 0, 9, 9]);
-/// let ends = Answer::list(&answers).map(|answer| (answer.code, answer.steps));
+/// let ends = Answer::list(&answers).take(count).map(|answer| (answer.code, answer.steps));
 /// assert!(ends.eq([(0, 4), (13, 100), (0, 2)]));
 ///
 /// let count = run_each(b"int n", &mut images, 4, 100, &mut answers[..20]);

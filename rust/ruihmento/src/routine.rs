@@ -135,7 +135,8 @@ impl Routine {
     /// Image k is the bytes from k·size to (k+1)·size; bytes after the last whole image stay, and
     /// there is no image where `size` is 0. A run of one image is not affected by what another
     /// holds, or by how it ends. Where `size` is less than [`Routine::need`], each image is
-    /// [`Refusal::MemoryTooShort`](crate::Refusal::MemoryTooShort), and no byte changes.
+    /// [`Refusal::MemoryTooShort`](crate::Refusal::MemoryTooShort), and no byte changes. A routine
+    /// that needs no memory wants images of a byte at least: `routine.need().max(1)`.
     ///
     /// ```
     /// let routine = ruihmento::Routine::new("int n; while (0 < n) n = n - 1;")?;
