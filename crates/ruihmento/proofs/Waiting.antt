@@ -12,15 +12,8 @@ use Rattle.layout.specs.Code.{code-words, program-words}
 use Rattle.layout.specs.Instructions.{chunk-lanes}
 use Rattle.laws.specs.Sound.{code-stack, stack-limit, Able, Runnable, of-nothing, of-step, of-put, of-both, of-choice, of-cycle, of-alone}
 use Rattle.laws.specs.Values.{Every, every-nothing, every-step, every-put, every-both, every-choice, every-cycle, every-alone}
+use Rattle.instructions.proofs.Leaving.{some-stack}
 use Rattle.ruihmento.specs.Waiting.{waiting}
-
-stack-some : (e : Code) → 0 < code-stack e
-unfolding code-stack
-stack-some (constant n) = omega arith
-stack-some (variable x) = omega arith
-stack-some the-mask = omega arith
-stack-some (one p k o a) = stack-some a
-stack-some (two p k o a b) = omega (arith, stack-some a)
 
 stack-words : (e : Code) → 2 * unit-words * code-stack e ≤ length (code-words e) + unit-words
 unfolding code-stack code-words
@@ -28,7 +21,7 @@ stack-words (constant n) = omega arith
 stack-words (variable x) = omega arith
 stack-words the-mask = omega arith
 stack-words (one p k o a) = rw (length-append (code-words a)) (omega (arith, stack-words a))
-stack-words (two p k o a b) = rw (length-append (code-words a), length-append (code-words b)) (omega (arith, stack-words a, stack-some a, stack-words b))
+stack-words (two p k o a b) = rw (length-append (code-words a), length-append (code-words b)) (omega (arith, stack-words a, some-stack a, stack-words b))
 
 -- No more wait than the words tell, nor in fewer words.
 stack-waiting : {n w : ℕ} {e : Code} → Able n e → length (code-words e) ≤ w → code-stack e ≤ waiting w
