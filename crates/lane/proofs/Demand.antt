@@ -45,7 +45,7 @@ module _ (n : ℕ) (text : List ℕ) (one : One-length n text) (P : Program) (Γ
 
   -- A variable has some lane: one, or n. So it has each lane below n.
   some-lane : (x : ℕ) → x < length (variables text) → 0 < (declared (variables text) x) .lanes
-  some-lane x l = rw (variables-are text P Γ e) (listed-some ((declared Γ x) .lanes) (narrowed .paired .laid .listed x (rw (variables-are text P Γ e) at l)))
+  some-lane x l = rw (variables-are text P Γ e) (listed-some ((declared Γ x) .lanes) (narrowed .paired .laid .laid .listed x (rw (variables-are text P Γ e) at l)))
 
   has-each : (i : ℕ) → i < n → Has-lane i text
   has-each i h = record { each = λ x l. go x l (order ((declared (variables text) x) .lanes) 1) }

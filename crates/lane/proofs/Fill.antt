@@ -37,7 +37,7 @@ module _ {text : List ℕ} (Δ : Declarations) (laid : Ordered text Δ) (given :
   length-filled zero h = length-replicate (need Δ) 0
   length-filled (suc n) h =
       let l : length (filled n) ≡ need Δ = length-filled n (omega arith) in
-      length-replaced (from n) (width n) (given n) (filled n) (omega (arith, laid .ends n h)) (sized n h) ∙ l
+      length-replaced (from n) (width n) (given n) (filled n) (omega (arith, laid .laid .ends n h)) (sized n h) ∙ l
 
   all-filled : {Q : ℕ → Type 0} → Q 0 → ((x : ℕ) → All Q (given x)) → (n : ℕ) → All Q (filled n)
   unfolding filled
@@ -52,10 +52,10 @@ module _ {text : List ℕ} (Δ : Declarations) (laid : Ordered text Δ) (given :
   filled-at (suc n) x h k = go (filled-at n x) (order x n)
     where
       fits : from n + width n ≤ length (filled n)
-      fits = omega (arith, laid .ends n k, length-filled n (omega arith))
+      fits = omega (arith, laid .laid .ends n k, length-filled n (omega arith))
 
       go : (x < n → n ≤ length Δ → part (from x) (width x) (filled n) ≡ given x) → Order x n → part (from x) (width x) (filled (suc n)) ≡ given x
-      go old (below l) = part-before (from n) (width n) (given n) (filled n) fits (sized n k) (from x) (width x) (laid .apart x n l k) ∙ old l (omega arith)
+      go old (below l) = part-before (from n) (width n) (given n) (filled n) fits (sized n k) (from x) (width x) (laid .laid .apart x n l k) ∙ old l (omega arith)
       go old (same e) =
           rw e
           (ap (λ (k : ℕ). part k (width n) (filled (suc n))) (sym (add-zero (from n)))
@@ -104,7 +104,7 @@ module _ (text : List ℕ) (i : ℕ) (Γ Δ : Declarations) (pair : Paired text 
   lane-size x h =
       let d = declared Γ x in
       let at : ℕ = d .address + seat (d .lanes) i * size (d .kind) in
-      length-take-le (size (d .kind)) (drop at M) (omega (arith, length-drop at M, pair .laid .ends x h, mul-le-mul-right (size (d .kind)) (all x h)))
+      length-take-le (size (d .kind)) (drop at M) (omega (arith, length-drop at M, pair .laid .laid .ends x h, mul-le-mul-right (size (d .kind)) (all x h)))
 
   thin-size : (x : ℕ) → x < length Δ → length (lane-bytes i (declared Γ x) M) ≡ whole ((declared Δ x) .kind) (lanes-of Δ x)
   unfolding whole

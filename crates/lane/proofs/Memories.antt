@@ -33,7 +33,7 @@ single-lane i (x ∷ y ∷ u) e = absurd (omega arith)
 module _ (Γ : Declarations) {text : List ℕ} (laid : Ordered text Γ) (i : ℕ) (M : Memory) (long : need Γ ≤ length M) (x : ℕ) (x-in : x < length Γ) (m : Mask) (v : Value)
     (sm : Spreadable (lanes-of Γ x) (length m)) (sv : Spreadable (lanes-of Γ x) (length v)) where
   fits : end-of (declared Γ x) ≤ length M
-  fits = omega (arith, laid .ends x x-in)
+  fits = omega (arith, laid .laid .ends x x-in)
 
   still-long : need Γ ≤ length (update Γ M x m v)
   still-long = omega (arith, length-update Γ M x m v fits sm sv)
@@ -50,9 +50,9 @@ module _ (Γ : Declarations) {text : List ℕ} (laid : Ordered text Γ) (i : ℕ
       from = (declared Γ y) .address + seat (lanes-of Γ y) i * size ((declared Γ y) .kind)
 
       go : Order y x → lane-bytes i (declared Γ y) (update Γ M x m v) ≡ lane-bytes i (declared Γ y) M
-      go (below l) = update-before Γ M x m v fits sm sv from (size ((declared Γ y) .kind)) (omega (arith, laid .apart y x l x-in, lane-end y h))
+      go (below l) = update-before Γ M x m v fits sm sv from (size ((declared Γ y) .kind)) (omega (arith, laid .laid .apart y x l x-in, lane-end y h))
       go (same e) = absurd (other e)
-      go (above l) = update-after Γ M x m v fits sm sv from (size ((declared Γ y) .kind)) (omega (arith, laid .apart x y l y-in))
+      go (above l) = update-after Γ M x m v fits sm sv from (size ((declared Γ y) .kind)) (omega (arith, laid .laid .apart x y l y-in))
 
 -- A memory is long enough, and the bytes of lane i are as wanted.
 pub record Lane-is (i : ℕ) (Γ : Declarations) (want : ℕ → List ℕ) (M : Memory) : Type 0 where

@@ -115,10 +115,10 @@ entered-both Γ Δ thin C n p k x =
     (λ u. both-passed (ltb (length Γ) declaration-limit) (ltb (length Δ) declaration-limit) TooManyDeclarations p Γ Δ _ _ (λ w. rw (each-length thin) w)
     (λ w. both-well (record { same-number = each-length thin; more = refl; more′ = refl }))))
 
--- "N is 1, 2, 4, 8 or 16": narrowed to 1.
+-- Every length of the list is narrowed to 1.
 listed-narrow : (n : ℕ) → Listed n → narrow-length n ≡ 1
 unfolding narrow-length
-listed-narrow n t = by-length (λ n. narrow-length n ≡ 1) n t refl refl refl refl refl
+listed-narrow n t = by-length (λ n. narrow-length n ≡ 1) n t refl refl refl refl refl refl refl
 
 -- What a statement is typed as: the same program.
 pub record Accepted (P : Program) (Γ : Declarations) (P′ : Program) (Δ : Declarations) : Type 0 where

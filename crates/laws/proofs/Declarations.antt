@@ -16,35 +16,37 @@ use Rattle.meaning.specs.Codes.{lengths, declaration-limit}
 use Rattle.meaning.specs.Tree.{Name}
 use Rattle.meaning.specs.Memory.{Declared, Declarations, declared, whole, size, next-multiple, need}
 use Rattle.meaning.specs.Typing.{with-one, shut}
-use Rattle.laws.specs.Sound.{Spelled, Laid}
-use Rattle.laws.specs.Declarations.{end-of, end-before, Listed, Ordered, closing, Alike, none-yet, both-more, Grows}
+use Rattle.laws.specs.Sound.{Spelled}
+use Rattle.laws.specs.Declarations.{end-of, end-before, Listed, lane-limit, whole-limit, Ordered, closing, Alike, none-yet, both-more, Grows}
 
--- A length of the list is one of five.
-pub by-length : (P : ℕ → Type 0) (n : ℕ) → Listed n → P 1 → P 2 → P 4 → P 8 → P 16 → P n
+-- A length of the list is one of seven.
+pub by-length : (P : ℕ → Type 0) (n : ℕ) → Listed n → P 1 → P 2 → P 4 → P 8 → P 16 → P 32 → P 64 → P n
 unfolding lengths
-by-length P n h a b c d e = go (eqb n 1) refl (eqb n 2) refl (eqb n 4) refl (eqb n 8) refl (eqb n 16) refl h
+by-length P n h a b c d e f g = go (eqb n 1) refl (eqb n 2) refl (eqb n 4) refl (eqb n 8) refl (eqb n 16) refl (eqb n 32) refl (eqb n 64) refl h
   where
-    go : (p : Bool) → eqb n 1 ≡ p → (q : Bool) → eqb n 2 ≡ q → (r : Bool) → eqb n 4 ≡ r → (s : Bool) → eqb n 8 ≡ s → (t : Bool) → eqb n 16 ≡ t
-        → (p || (q || (r || (s || (t || false))))) ≡ true → P n
-    go true x q _ r _ s _ t _ _ = rw (eqb-true n 1 x) a
-    go false _ true x r _ s _ t _ _ = rw (eqb-true n 2 x) b
-    go false _ false _ true x s _ t _ _ = rw (eqb-true n 4 x) c
-    go false _ false _ false _ true x t _ _ = rw (eqb-true n 8 x) d
-    go false _ false _ false _ false _ true x _ = rw (eqb-true n 16 x) e
-    go false _ false _ false _ false _ false _ z = absurd (false≢true z)
+    go : (p : Bool) → eqb n 1 ≡ p → (q : Bool) → eqb n 2 ≡ q → (r : Bool) → eqb n 4 ≡ r → (s : Bool) → eqb n 8 ≡ s → (t : Bool) → eqb n 16 ≡ t → (u : Bool) → eqb n 32 ≡ u → (v : Bool) → eqb n 64 ≡ v
+        → (p || (q || (r || (s || (t || (u || (v || false))))))) ≡ true → P n
+    go true x q _ r _ s _ t _ u _ v _ _ = rw (eqb-true n 1 x) a
+    go false _ true x r _ s _ t _ u _ v _ _ = rw (eqb-true n 2 x) b
+    go false _ false _ true x s _ t _ u _ v _ _ = rw (eqb-true n 4 x) c
+    go false _ false _ false _ true x t _ u _ v _ _ = rw (eqb-true n 8 x) d
+    go false _ false _ false _ false _ true x u _ v _ _ = rw (eqb-true n 16 x) e
+    go false _ false _ false _ false _ false _ true x v _ _ = rw (eqb-true n 32 x) f
+    go false _ false _ false _ false _ false _ false _ true x _ = rw (eqb-true n 64 x) g
+    go false _ false _ false _ false _ false _ false _ false _ z = absurd (false≢true z)
 
 pub listed-some : (n : ℕ) → Listed n → 0 < n
-listed-some n h = by-length (λ n. 0 < n) n h (omega arith) (omega arith) (omega arith) (omega arith) (omega arith)
+listed-some n h = by-length (λ n. 0 < n) n h (omega arith) (omega arith) (omega arith) (omega arith) (omega arith) (omega arith) (omega arith)
 
-pub listed-few : (n : ℕ) → Listed n → n ≤ 16
-listed-few n h = by-length (λ n. n ≤ 16) n h (omega arith) (omega arith) (omega arith) (omega arith) (omega arith)
+pub listed-few : (n : ℕ) → Listed n → n ≤ lane-limit
+listed-few n h = by-length (λ n. n ≤ lane-limit) n h (omega arith) (omega arith) (omega arith) (omega arith) (omega arith) (omega arith) (omega arith)
 
--- The next multiple of a whole size, and the size: each size divides 64.
+-- The next multiple of a whole size, and the size: each size divides the largest.
 record Rounded (end l w : ℕ) : Type 0 where
   after : end ≤ next-multiple end w
-  before : next-multiple end w + w ≤ 64 * suc l
+  before : next-multiple end w + w ≤ whole-limit * suc l
 
-rounded : (k : Kind) (n end l : ℕ) → Listed n → end ≤ 64 * l → Rounded end l (whole k n)
+rounded : (k : Kind) (n end l : ℕ) → Listed n → end ≤ whole-limit * l → Rounded end l (whole k n)
 unfolding next-multiple whole size
 rounded int n end l h e =
     by-length (λ n. Rounded end l (whole int n)) n h
@@ -53,8 +55,12 @@ rounded int n end l h e =
     (record { after = omega arith; before = omega arith })
     (record { after = omega arith; before = omega arith })
     (record { after = omega arith; before = omega arith })
+    (record { after = omega arith; before = omega arith })
+    (record { after = omega arith; before = omega arith })
 rounded bool n end l h e =
     by-length (λ n. Rounded end l (whole bool n)) n h
+    (record { after = omega arith; before = omega arith })
+    (record { after = omega arith; before = omega arith })
     (record { after = omega arith; before = omega arith })
     (record { after = omega arith; before = omega arith })
     (record { after = omega arith; before = omega arith })
@@ -85,22 +91,15 @@ module _ (end size : ℕ) (some : 0 < size) where
 pub ordered-none : (text : List ℕ) → Ordered text []
 unfolding need
 ordered-none text = record {
-  few = omega arith;
-  listed = λ x h. absurd (omega arith);
+  laid = record {
+    few = omega arith;
+    listed = λ x h. absurd (omega arith);
+    ends = λ x h. absurd (omega arith);
+    apart = λ x y h g. absurd (omega arith);
+    small = omega arith;
+  };
   named = λ x h. absurd (omega arith);
   next = λ x h. absurd (omega arith);
-  ends = λ x h. absurd (omega arith);
-  apart = λ x y h g. absurd (omega arith);
-  small = omega arith;
-}
-
-pub ordered-laid : {text : List ℕ} {Γ : Declarations} → Ordered text Γ → Laid Γ
-ordered-laid k = record {
-  few = k .few;
-  some-lanes = λ x h. listed-some _ (k .listed x h);
-  few-lanes = λ x h. listed-few _ (k .listed x h);
-  ends = k .ends;
-  small = k .small;
 }
 
 -- Need is the end of the last declaration.
@@ -176,17 +175,20 @@ module _ {text : List ℕ} {Γ : Declarations} (k : Ordered text Γ) (kind : Kin
   unfolding with-one
   ordered-one =
       let d : Declared = record { name = x; place = p; kind = kind; lanes = n; address = next-multiple (need Γ) (whole kind n); open? = true } in
-      let r = rounded kind n (need Γ) (length Γ) fits (k .small) in
+      let l = k .laid in
+      let r = rounded kind n (need Γ) (length Γ) fits (l .small) in
       let last = new-need Γ d in
       let more = new-length Γ d in
       record {
-        few = omega (arith, more, room);
-        listed = each-new Γ d (λ d. Listed (d .lanes)) (k .listed) fits;
+        laid = record {
+          few = omega (arith, more, room);
+          listed = each-new Γ d (λ d. Listed (d .lanes)) (l .listed) fits;
+          ends = each-new Γ d (λ e. end-of e ≤ need (Γ ++ (d ∷ []))) (λ x h. omega (arith, l .ends x h, last, r .after)) (omega (arith, last));
+          apart = apart-new Γ d (r .after) (l .ends) (l .apart);
+          small = omega (arith, last, more, r .before);
+        };
         named = each-new Γ d (λ d. Spelled text (d .place) (d .name)) (k .named) spelled;
         next = next-new Γ d refl (k .next);
-        ends = each-new Γ d (λ e. end-of e ≤ need (Γ ++ (d ∷ []))) (λ x h. omega (arith, k .ends x h, last, r .after)) (omega (arith, last));
-        apart = apart-new Γ d (r .after) (k .ends) (k .apart);
-        small = omega (arith, last, more, r .before);
       }
 
 -- A closed scope's declarations are alike.
@@ -226,14 +228,17 @@ unfolding shut end-before
 ordered-alike {text} {Γ} {Δ} a k =
     let l = alike-length a in
     let n = alike-need a in
+    let o = k .laid in
     record {
-      few = omega (arith, l, k .few);
-      listed = λ x h. each (λ d. Listed (d .lanes)) x (k .listed x (omega arith));
+      laid = record {
+        few = omega (arith, l, o .few);
+        listed = λ x h. each (λ d. Listed (d .lanes)) x (o .listed x (omega arith));
+        ends = λ x h. rw n (each (λ d. end-of d ≤ need Γ) x (o .ends x (omega arith)));
+        apart = λ x y h g. each (λ d. end-of d ≤ (declared Δ y) .address) x (each (λ d. end-of (declared Γ x) ≤ d .address) y (o .apart x y h (omega arith)));
+        small = rw (n, l) (o .small);
+      };
       named = λ x h. each (λ d. Spelled text (d .place) (d .name)) x (k .named x (omega arith));
       next = λ x h. rw (before x) (each (λ d. d .address ≡ next-multiple (end-before Γ x) (whole (d .kind) (d .lanes))) x (k .next x (omega arith)));
-      ends = λ x h. rw n (each (λ d. end-of d ≤ need Γ) x (k .ends x (omega arith)));
-      apart = λ x y h g. each (λ d. end-of d ≤ (declared Δ y) .address) x (each (λ d. end-of (declared Γ x) ≤ d .address) y (k .apart x y h (omega arith)));
-      small = rw (n, l) (k .small);
     }
   where
     each : (P : Declared → Type 0) (x : ℕ) → P (shut (declared Γ x)) → P (shut (declared Δ x))

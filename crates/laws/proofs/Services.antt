@@ -14,7 +14,7 @@ use Rattle.meaning.specs.Memory.{Memory, Mask, Declarations, need}
 use Rattle.meaning.specs.Running.{Event, Ran, stopped, done}
 use Rattle.meaning.specs.Services.{Answer, answer, judged, verdict, judge, variables, evaluate, effect, program-run, ended, executed, run}
 use Rattle.laws.specs.Outcomes.{Refused-in}
-use Rattle.laws.specs.Sound.{Laid}
+use Rattle.laws.specs.Declarations.{Laid}
 use Rattle.laws.specs.Near.{Stops, near-done, near-spent, Does}
 use Rattle.laws.specs.Accepted.{Ready}
 use Rattle.laws.specs.Values.{Lanes, Bytes, Every}

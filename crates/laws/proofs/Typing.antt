@@ -26,7 +26,7 @@ use Rattle.laws.specs.Accepted.{Ready}
 use Rattle.laws.specs.Near.{Near-program, near-nothing, near-step, near-put, near-both, near-choice, near-cycle, near-alone}
 use Rattle.laws.proofs.Outcomes.{still, followed, keeping, weaker, checked, passed}
 use Rattle.laws.proofs.Tests.{and-l, and-r}
-use Rattle.laws.proofs.Declarations.{ordered-none, ordered-laid, ordered-one, new-length, new-declared, grows-new, closing-alike, grows-alike, ordered-alike}
+use Rattle.laws.proofs.Declarations.{ordered-none, ordered-one, new-length, new-declared, grows-new, closing-alike, grows-alike, ordered-alike}
 use Rattle.laws.proofs.Lengths.{suits-of, match-of, spreadable-of, mask-for, joined-cases, matched-numbers, grows-same, grows-on, width-grows, matched-grows, typed-grows, fits-grows}
 use Rattle.laws.proofs.Sound.{runnable-more, deeper}
 
@@ -96,7 +96,7 @@ module _ (text : List ℕ) where
         keeping _ (named-goes C p x Γ (omega (arith, s .inside))) (λ v h.
         rw (h .is) (still (record {
           alike = refl;
-          listed = order .listed (v .0) (h .below);
+          listed = order .laid .listed (v .0) (h .below);
           typed = record { kinded = kinded-variable (h .below); matched = matched-variable (h .below) (h .suits) };
           wide = refl;
         })))
@@ -298,4 +298,4 @@ module _ (text : List ℕ) where
   unfolding typed-program
   program-ends l w =
       weaker (statements-go nesting-limit 1 l [] listed-one w (ordered-none text)) (λ P Γ g.
-      record { runs = g .runs; near = g .near; fits = g .fit; laid = ordered-laid (g .order); ordered = g .order })
+      record { runs = g .runs; near = g .near; fits = g .fit; laid = g .order .laid; ordered = g .order })

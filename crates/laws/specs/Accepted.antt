@@ -5,8 +5,8 @@ use lib.ListN.{length}
 use Rattle.meaning.specs.Codes.{nesting-limit}
 use Rattle.meaning.specs.Program.{Program}
 use Rattle.meaning.specs.Memory.{Declarations}
-use Rattle.laws.specs.Sound.{Runnable, Laid}
-use Rattle.laws.specs.Declarations.{Ordered}
+use Rattle.laws.specs.Sound.{Runnable}
+use Rattle.laws.specs.Declarations.{Ordered, Laid}
 use Rattle.laws.specs.Lengths.{Fits}
 use Rattle.laws.specs.Near.{Near-program}
 

@@ -22,17 +22,28 @@ end-before Γ (suc x) = end-of (declared Γ x)
 abbrev pub Listed : ℕ → Type 0
 Listed n = n among lengths ≡ true
 
--- What the declarations of a text keep to: at most 64 of them, each of a listed length, with its name in the text, and with "an address
--- of its own, in text order, never shared with another: the next multiple of its whole size"; all end before need, which is at most 64
--- bytes for each.
-pub record Ordered (text : List ℕ) (Γ : Declarations) : Type 0 where
+-- The greatest length of the list, and the bytes of the largest variable: an int of that length.
+abbrev pub lane-limit : ℕ
+lane-limit = 64
+
+abbrev pub whole-limit : ℕ
+whole-limit = lane-limit * 4
+
+-- At most 64 declarations, each of a listed length and with bytes of its own, in text order, before need, which is at most the largest
+-- variable for each.
+pub record Laid (Γ : Declarations) : Type 0 where
   pub few : length Γ ≤ declaration-limit
   pub listed : (x : ℕ) → x < length Γ → Listed ((declared Γ x) .lanes)
-  pub named : (x : ℕ) → x < length Γ → Spelled text ((declared Γ x) .place) ((declared Γ x) .name)
-  pub next : (x : ℕ) → x < length Γ → (declared Γ x) .address ≡ next-multiple (end-before Γ x) (whole ((declared Γ x) .kind) ((declared Γ x) .lanes))
   pub ends : (x : ℕ) → x < length Γ → end-of (declared Γ x) ≤ need Γ
   pub apart : (x y : ℕ) → x < y → y < length Γ → end-of (declared Γ x) ≤ (declared Γ y) .address
-  pub small : need Γ ≤ 64 * length Γ
+  pub small : need Γ ≤ whole-limit * length Γ
+
+-- What the declarations of a text keep to: each has its name in the text, and "an address of its own, in text order, never shared with
+-- another: the next multiple of its whole size".
+pub record Ordered (text : List ℕ) (Γ : Declarations) : Type 0 where
+  pub laid : Laid Γ
+  pub named : (x : ℕ) → x < length Γ → Spelled text ((declared Γ x) .place) ((declared Γ x) .name)
+  pub next : (x : ℕ) → x < length Γ → (declared Γ x) .address ≡ next-multiple (end-before Γ x) (whole ((declared Γ x) .kind) ((declared Γ x) .lanes))
 
 -- The declarations at the end of a scope that began after n of them.
 abbrev pub closing : ℕ → Declarations → Declarations

@@ -7,12 +7,11 @@ use mathlib.Core.List.{List}
 use mathlib.Core.Option.{Option, none, some}
 use lib.ListN.{length, take, drop}
 use Rattle.meaning.specs.declared.Kind.{Kind}
-use Rattle.meaning.specs.Codes.{number-limit, nesting-limit, declaration-limit}
+use Rattle.meaning.specs.Codes.{number-limit, nesting-limit}
 use Rattle.meaning.specs.declared.Unary.{Unary}
 use Rattle.meaning.specs.declared.Binary.{Binary}
 use Rattle.meaning.specs.Tree.{Name, Expr, number, boolean, name, current-mask, unary, binary, Block, Stmt, empty, braces, declare, assign, if-else, while, scalar, Stmts, none-yet, _⨾_}
 use Rattle.meaning.specs.Program.{Code, constant, variable, the-mask, one, two, Program, nothing, step, put, both, choice, cycle, alone}
-use Rattle.meaning.specs.Memory.{Declarations, declared, whole, need}
 
 -- A name's bytes stand in the text at its place.
 pub record Spelled (text : List ℕ) (p : ℕ) (x : Name) : Type 0 where
@@ -101,11 +100,3 @@ pub data Runnable (n : ℕ) : ℕ → Program → Type 0 where
   of-choice : {r p : ℕ} {e : Code} {s t : Program} → Able n e → Runnable n r s → Runnable n r t → Runnable n (suc r) (choice p e s t)
   of-cycle : {r p : ℕ} {e : Code} {s : Program} → Able n e → Runnable n r s → Runnable n (suc r) (cycle p e s)
   of-alone : {r : ℕ} {s : Program} → Runnable n r s → Runnable n (suc r) (alone s)
-
--- Declarations of 1 to 16 lanes, at most 64 of them, each of which ends before need, which is at most 64 bytes for each.
-pub record Laid (Γ : Declarations) : Type 0 where
-  pub few : length Γ ≤ declaration-limit
-  pub some-lanes : (i : ℕ) → i < length Γ → 0 < (declared Γ i) .lanes
-  pub few-lanes : (i : ℕ) → i < length Γ → (declared Γ i) .lanes ≤ 16
-  pub ends : (i : ℕ) → i < length Γ → (declared Γ i) .address + whole ((declared Γ i) .kind) ((declared Γ i) .lanes) ≤ need Γ
-  pub small : need Γ ≤ 64 * length Γ

@@ -1,13 +1,14 @@
 -- "four 32-bit little-endian numbers", and the limits that they keep to.
-use Prim.Native.Nat.{ℕ, _^_, _≤_, _<_}
+use Prim.Native.Nat.{ℕ, _*_, _^_, _≤_, _<_}
 use mathlib.Core.List.{List}
 use lib.ListN.{length}
-use Rattle.meaning.specs.Codes.{text-limit}
+use Rattle.meaning.specs.Codes.{text-limit, declaration-limit}
 use Rattle.meaning.specs.Services.{Answer}
+use Rattle.laws.specs.Declarations.{whole-limit}
 
--- "Need is the end of the last one, at most 4,096."
+-- "Need is the end of the last one"; document 02, R-9: "need can reach 16,384", so it is at most the largest variable for each declaration.
 unfoldable pub need-limit : ℕ
-need-limit = 4096
+need-limit = declaration-limit * whole-limit
 
 -- The four numbers fit.
 pub record Words (a : Answer) : Type 0 where

@@ -1,3 +1,4 @@
 pub mod Table
 pub mod Errors
 pub mod Calls
+pub mod Requests

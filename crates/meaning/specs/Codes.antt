@@ -43,9 +43,9 @@ nesting-limit = 32
 abbrev pub declaration-limit : ℕ
 declaration-limit = 64
 
--- "N is 1, 2, 4, 8 or 16".
+-- "N is 1, 2, 4, 8 or 16", and document 02, R-9: "Allow N of 32 and 64."
 unfoldable pub lengths : List ℕ
-lengths = 1 ∷ 2 ∷ 4 ∷ 8 ∷ 16 ∷ []
+lengths = 1 ∷ 2 ∷ 4 ∷ 8 ∷ 16 ∷ 32 ∷ 64 ∷ []
 
 -- The refusals of a run that are not the judge's: "Judge gives 0 to 11".
 unfoldable pub only-a-run-gives : List ℕ

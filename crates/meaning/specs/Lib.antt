@@ -9,3 +9,4 @@ pub mod Running
 pub mod Services
 pub mod Table
 pub mod Errors
+pub mod Requests

@@ -109,7 +109,7 @@ declare-name C k n p x Γ = (do
   check (ltb (length Γ) declaration-limit) TooManyDeclarations p
   λ Γ. ok (length Γ) (with-one k n p x Γ)) Γ
 
--- "N is 1, 2, 4, 8 or 16"
+-- N is of the list: "Demands and code 7 read with the new list."
 unfoldable pub good-block : Block → Types (Unit {0})
 good-block none = give tt
 good-block (some n) = check (n .0 among lengths) LengthNotListed (n .1)

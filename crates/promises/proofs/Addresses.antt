@@ -21,7 +21,7 @@ use Rattle.laws.specs.Declarations.{Ordered}
 use Rattle.laws.specs.Order.{In-text-order}
 use Rattle.laws.specs.Words.{need-limit, In-limits}
 use Rattle.laws.proofs.Tests.{by-if}
-use Rattle.laws.proofs.Declarations.{listed-some, next-divides, next-behind, next-least, need-last, ordered-none, ordered-laid}
+use Rattle.laws.proofs.Declarations.{listed-some, listed-few, next-divides, next-behind, next-least, need-last, ordered-none}
 use Rattle.laws.proofs.Order.{accepted-rising}
 use Rattle.laws.proofs.Services.{need-low, by-verdict, judge-limits, run-limits, variables-limits}
 use Rattle.lane.specs.Lane.{variables-in, variables}
@@ -48,7 +48,7 @@ module _ {text : List ℕ} {Γ : Declarations} (order : Ordered text Γ) where
 
   apart : (x y b : ℕ) → x < y → y < length Γ → Covers (spans x) b → Covers (spans y) b → ⊥
   unfolding spans span-of
-  apart x y b l h c e = omega (arith, order .apart x y l h, c .to, e .from)
+  apart x y b l h c e = omega (arith, order .laid .apart x y l h, c .to, e .from)
 
   ordered-addresses : Addresses (length Γ) spans
   unfolding spans span-of
@@ -67,10 +67,10 @@ module _ {text : List ℕ} {Γ : Declarations} (order : Ordered text Γ) where
       size-of x = whole ((declared Γ x) .kind) ((declared Γ x) .lanes)
 
       some : (x : ℕ) → x < length Γ → 0 < size-of x
-      some x h = some-bytes ((declared Γ x) .kind) ((declared Γ x) .lanes) (listed-some _ (order .listed x h))
+      some x h = some-bytes ((declared Γ x) .kind) ((declared Γ x) .lanes) (listed-some _ (order .laid .listed x h))
 
   ordered-needs : Needs (length Γ) spans (need Γ)
-  ordered-needs = record { last = need-last Γ ∙ sym (before (length Γ)); limit = need-low (ordered-laid order) }
+  ordered-needs = record { last = need-last Γ ∙ sym (before (length Γ)); limit = need-low (order .laid) }
 
 -- The declarations of a text are in order; of a refused text there are none. A place of a name is low, since no long text is accepted.
 module _ (text : List ℕ) where
@@ -214,11 +214,10 @@ module _ (text table : List ℕ) where
   unfolding need-limit
   low x h =
       let order = in-order text in
-      let laid = ordered-laid order in
       record {
         place = omega (arith, named x h, short text (omega arith));
-        lanes = omega (arith, laid .few-lanes x h);
-        address = omega (arith, order .ends x h, need-low laid);
+        lanes = omega (arith, listed-few _ (order .laid .listed x h));
+        address = omega (arith, order .laid .ends x h, need-low (order .laid));
       }
 
   entry-is : (x : ℕ) → x < shown (length Γ) table → entry-in (listed Γ table) x ≡ entry-of (declared Γ x)
@@ -237,7 +236,7 @@ module _ (text table : List ℕ) where
     names = rw (counted, written) (λ x h. rw (entry-is x h) (in-order text .named x (omega arith)));
     in-order = rw (counted, written) ordered-places;
     addresses = rw (counted, written) (addresses-same (omega arith) span-is (declared-addresses text));
-    enough = rw (counted, written, needed) (λ x h. rw (span-is x h) (in-order text .ends x (omega arith)));
+    enough = rw (counted, written, needed) (λ x h. rw (span-is x h) (in-order text .laid .ends x (omega arith)));
     limit = variables-limits text table .need;
     needs = rw (counted, written, needed) all;
   }

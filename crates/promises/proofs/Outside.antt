@@ -26,7 +26,7 @@ module _ {text : List ℕ} {Γ : Declarations} (ordered : Ordered text Γ) {M : 
   module _ (N : Memory) (kept : Same-outside Γ M N) (x : ℕ) (m : Mask) (v : Value) (x-in : x < length Γ)
       (sm : Spreadable ((declared Γ x) .lanes) (length m)) (sv : Spreadable ((declared Γ x) .lanes) (length v)) where
     fits : end-of (declared Γ x) ≤ length N
-    fits = omega (arith, ordered .ends x x-in, kept .as-long)
+    fits = omega (arith, ordered .laid .ends x x-in, kept .as-long)
 
     stored : Same-outside Γ M (update Γ N x m v)
     stored = record { as-long = length-update Γ N x m v fits sm sv ∙ kept .as-long; outside = λ b c o. go b c (o .apart x x-in) ∙ kept .outside b c o }

@@ -1,13 +1,17 @@
--- Document 01's starred cases, and the errors that come easily, as theorems about the services themselves.
+-- Document 01's starred cases, the errors that come easily and document 02's cases, as theorems about the services themselves.
+use Prim.Native.Nat.{ℕ}
 use mathlib.Core.Path.{_≡_, ap}
 use mathlib.Core.List.{List, [], _∷_, map}
 use Rattle.meaning.specs.Tokens.{bytes}
-use Rattle.meaning.specs.Services.{judge, run}
+use Rattle.meaning.specs.Services.{answer, judge, run, judge-call, Kept}
 use Rattle.meaning.specs.Table.{Row, judged-as, found, expected, starred}
 use Rattle.meaning.specs.Errors.{errors}
+use Rattle.meaning.specs.Requests.{long-blocks, declarations}
 use Rattle.meaning.proofs.Table.{checked-by-hand}
 use Rattle.meaning.proofs.Errors.{none-is-made}
+use Rattle.meaning.proofs.Requests.{long-blocks-hold, largest-need}
 use Rattle.laws.specs.Values.{All, no-more, and-one}
+use Rattle.promises.specs.Promise.{Delivers}
 use Rattle.promises.specs.Starred.{Serves}
 use Rattle.promises.proofs.Demands.{judge-delivers, run-delivers}
 
@@ -35,3 +39,12 @@ starred-served = all-serve starred checked-by-hand
 -- And every one of them keeps clear of the errors that come easily.
 pub errors-served : All Serves errors
 errors-served = all-serve errors none-is-made
+
+-- So do they with document 02's cases: of R-9, "Longer blocks".
+pub long-blocks-served : All Serves long-blocks
+long-blocks-served = all-serve long-blocks long-blocks-hold
+
+-- And the largest need is told: the text of 64 declarations of 64 ints.
+pub largest-served : (slice : List ℕ) {returned : ℕ} {slice′ : List ℕ} → Kept (judge-call (declarations 64) slice) returned slice′ tt
+    → Delivers {A = Unit {0}} slice tt (answer 0 0 16384 0) tt returned slice′ tt
+largest-served slice kept = rw largest-need at (judge-delivers (declarations 64) slice kept)

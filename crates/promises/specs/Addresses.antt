@@ -46,7 +46,7 @@ pub record Addresses (n : ℕ) (span : ℕ → Span) : Type 0 where
   -- "an address of its own .. never shared with another": no byte is of two.
   pub own : (x y b : ℕ) → x < n → y < n → Covers (span x) b → Covers (span y) b → x ≡ y
 
--- "Need is the end of the last one, at most 4,096."
+-- "Need is the end of the last one"; document 02, R-9: "need can reach 16,384".
 pub record Needs (n : ℕ) (span : ℕ → Span) (need : ℕ) : Type 0 where
   pub last : need ≡ previous-end span n
   pub limit : need ≤ need-limit
@@ -103,7 +103,7 @@ pub record Lists-addresses (text table : List ℕ) (a : Answer) (table′ : List
   pub in-order : (x y : ℕ) → x < y → y < shown (a .steps) table → (entry-in table′ x) .place < (entry-in table′ y) .place
   -- the addresses are as document 01 says,
   pub addresses : Addresses (shown (a .steps) table) (span-in table′)
-  -- need is enough for each, and at most 4,096; it is the end of the last, where every record is there.
+  -- need is enough for each, and within its limit; it is the end of the last, where every record is there.
   pub enough : (x : ℕ) → x < shown (a .steps) table → end (span-in table′ x) ≤ a .need
   pub limit : a .need ≤ need-limit
   pub needs : record-bytes * a .steps ≤ length table → Needs (a .steps) (span-in table′) (a .need)

@@ -153,7 +153,7 @@ names-one C k n p x Γ =
     go none (missing e) h = e
     go (some i) (found j e l e′) h = absurd (false≢true h)
 
--- "N is 1, 2, 4, 8 or 16"
+-- N is of the list.
 pub listed : (b : Block) (Γ : Declarations) → Yields (Still Γ (λ _. Listed b)) (good-block b Γ)
 unfolding good-block
 listed none Γ = well (refl, no-block)

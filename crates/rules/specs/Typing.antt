@@ -24,7 +24,7 @@ infix 60 _at_
 unfoldable pub _at_ : Names → Name → Option (Kind × ℕ)
 _at_ Γ x = lookup (λ y. equal y x) Γ
 
--- "N is 1, 2, 4, 8 or 16", where there is one.
+-- N is of the list, where there is one.
 pub data Listed : Block → Type 0 where
   no-block : Listed none
   block : {b : ℕ × ℕ} → b .0 among lengths ≡ true → Listed (some b)

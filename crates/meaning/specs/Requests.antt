@@ -1,0 +1,35 @@
+-- Document 02: cases worked out by hand for the requests that are made. That every row holds is the theorem of proofs/Requests.antt.
+use Prim.Native.Nat.{ℕ, zero, suc, _+_, _/_, _%_}
+use mathlib.Core.List.{List, [], _∷_, _++_}
+use lib.Dec.{ltb}
+use lib.ListN.{replicate}
+use Rattle.meaning.specs.Codes.{if_then_else_}
+use Rattle.meaning.specs.Tokens.{bytes}
+use Rattle.meaning.specs.Table.{Row, _over_for_gives_leaves_, _gets_at_, ints}
+
+-- R-9, "Longer blocks": 32 and 64 lanes and no more, and the two do not match; an address that is a multiple of a block's size; the last
+-- of 64 lanes under `if`; a `while` that one lane keeps going; flags and samples of 64 lanes; a vote over 64 lanes; the mask of 64 as a
+-- value, under a scalar condition; a memory that is a byte too short, and one that is longer.
+unfoldable pub long-blocks : List Row
+long-blocks =
+    "bool block[32] a; bool block[64] b;" over replicate 128 7 for 1000 gives (0, 0, 128, 2) leaves replicate 128 7
+    ∷ "int block[128] a;" gets 7 at 10
+    ∷ "int block[48] a;" gets 7 at 10
+    ∷ "bool block[32] m; int block[64] v; if (m) v = 1; else ;" gets 9 at 42
+    ∷ "bool block[64] a; if (a) ; else a = true;" over replicate 63 1 ++ (0 ∷ []) for 1000 gives (0, 0, 64, 4) leaves replicate 64 1
+    ∷ "int block[64] n; while (0 < n) n = n - 1;" over ints (replicate 40 0 ++ (2 ∷ replicate 23 0)) for 1000 gives (0, 0, 256, 6) leaves ints (replicate 64 0)
+    ∷ "bool block[64] ok; int block[64] s; if (ok) s = s + s; else ;" over (replicate 63 0 ++ (1 ∷ [])) ++ replicate 192 9 ++ ints (replicate 63 5 ++ (6 ∷ [])) for 1000 gives (0, 0, 512, 5) leaves ((replicate 63 0 ++ (1 ∷ [])) ++ replicate 192 9 ++ ints (replicate 63 5 ++ (12 ∷ [])))
+    ∷ "bool block[64] m; int s; if (m) scalar s = 1; else ;" over (replicate 63 0 ++ (5 ∷ [])) ++ ints (7 ∷ []) for 1000 gives (0, 0, 68, 5) leaves ((replicate 63 0 ++ (5 ∷ [])) ++ ints (1 ∷ []))
+    ∷ "bool block[64] m; bool block[64] k; int one = 1; if (m) if (one == 1) k = !current_mask; else ; else k = current_mask;" over (replicate 63 0 ++ (1 ∷ [])) ++ replicate 68 2 for 1000 gives (0, 0, 132, 7) leaves ((replicate 63 0 ++ (1 ∷ [])) ++ (replicate 63 1 ++ (0 ∷ [])) ++ ints (1 ∷ []))
+    ∷ "int block[32] a = 3;" over replicate 127 0 for 1000 gives (12, 0, 128, 0) leaves replicate 127 0
+    ∷ "int block[64] v = 7;" over replicate 257 9 for 1000 gives (0, 0, 256, 1) leaves (ints (replicate 64 7) ++ (9 ∷ []))
+    ∷ []
+
+-- The digits of a number below 100.
+unfoldable pub digits : ℕ → List ℕ
+digits n = if ltb n 10 then (λ _. (48 + n) ∷ []) else λ _. (48 + n / 10) ∷ (48 + n % 10) ∷ []
+
+-- The text of n declarations, `int block[64] v0;`, `int block[64] v1;` and so on, without a space between them.
+unfoldable pub declarations : ℕ → List ℕ
+declarations zero = []
+declarations (suc n) = declarations n ++ bytes "int block[64] v" ++ digits n ++ bytes ";"
