@@ -11,6 +11,7 @@ use borrow.Author.Tests.{lt-ltb, le-ltb}
 use Rattle.meaning.specs.declared.Kind.{Kind}
 use Rattle.meaning.specs.declared.Kind.the-variants.{Int as int, Bool as bool}
 use Rattle.meaning.specs.declared.Refusal.the-variants.{UnknownName, AlreadyOpen, WrongLength, TooManyDeclarations}
+use Rattle.meaning.specs.Codes.{declaration-limit}
 use Rattle.meaning.specs.Tokens.{equal, the, numbered, reserved, words, signs, marks}
 use Rattle.meaning.specs.declared.Unary.{Unary}
 use Rattle.meaning.specs.declared.Binary.{Binary}
@@ -201,16 +202,16 @@ module _ {text T U : List ℕ} {at : Point} {place end n : ℕ} {k : Kind} {b : 
     unfolding number-out declare-name number-of
     declare-6 h = record { is = rw (← eb, q, ← f .is, h); on = λ m z q. absurd (let y : _≡_ {A = ℕ} 0 1 = cc in omega arith) }
 
-    pub declare-11 : r ≡ Nothing → 64 ≤ at .count → Declares-name at k n place end text T U (Refused TooManyDeclarations place)
+    pub declare-11 : r ≡ Nothing → declaration-limit ≤ at .count → Declares-name at k n place end text T U (Refused TooManyDeclarations place)
     unfolding number-out declare-name number-of
-    declare-11 h l = record { is = rw (← eb, q, ← f .is, h, length-entries text T (at .count), le-ltb (at .count) 64 l); on = λ m z q. absurd (let y : _≡_ {A = ℕ} 0 1 = cc in omega arith) }
+    declare-11 h l = record { is = rw (← eb, q, ← f .is, h, length-entries text T (at .count), le-ltb (at .count) declaration-limit l); on = λ m z q. absurd (let y : _≡_ {A = ℕ} 0 1 = cc in omega arith) }
 
-    pub declare-ok : {a : ℕ} → r ≡ Nothing → at .count < 64 → Rows text T (at .count) → Spans text place end → Listed-length n → a ≡ next-multiple (end-of T (at .count)) (whole k n) → U ≡ with-row T (at .count) place end (kind-number k) n a
+    pub declare-ok : {a : ℕ} → r ≡ Nothing → at .count < declaration-limit → Rows text T (at .count) → Spans text place end → Listed-length n → a ≡ next-multiple (end-of T (at .count)) (whole k n) → U ≡ with-row T (at .count) place end (kind-number k) n a
         → Declares-name at k n place end text T U (Done (at .count + 1) (at .size))
     unfolding number-out declare-name number-of
     declare-ok h l s w m ea eu =
         let more : Added T U (at .count) place end (kind-number k) n (next-multiple (end-of T (at .count)) (whole k n)) = rw (eu, ea) (added T (at .count) place end (kind-number k) n (next-multiple (end-of T (at .count)) (whole k n)) (omega (arith, s .room))) in
         record {
-          is = rw (added-entries text k more, ← eb, q, ← f .is, h, length-entries text T (at .count), lt-ltb (at .count) 64 l) (rw (length-entries text T (at .count)));
+          is = rw (added-entries text k more, ← eb, q, ← f .is, h, length-entries text T (at .count), lt-ltb (at .count) declaration-limit l) (rw (length-entries text T (at .count)));
           on = λ j z e. let up : j ≡ at .count + 1 = cc in record { one-more = up; size = cc; rows = rw up (added-rows text k more s l w m) };
         }

@@ -4,65 +4,62 @@ use native.Mathlib.Omega.{arith}
 use native.Mathlib.Nat.{add-zero, mul-comm, mul-assoc, mul-le-mul-right, suc-mul, div-add-mod', mod-lt, div-lt-iff-lt-mul}
 use native.Mathlib.Numerals.{add-one}
 use mathlib.Core.Path.{_≡_, refl, sym, ap, _∙_}
-use mathlib.Core.Bool.{Bool, true, false, _||_, true≢false}
+use mathlib.Core.Bool.{Bool, true, false}
 use mathlib.Core.List.{List, [], _∷_, _++_, map, map-append, append-nil, append-assoc}
-use lib.Dec.{eqb, leb}
+use lib.Dec.{leb}
 use lib.ListN.{length, getD, take, drop, set, length-set, drop-of-length-le}
 use lib.Seq.{sets, length-sets, getD-set-same, getD-set-other, take-all, take-append-le, drop-append-le}
 use borrow.Author.Count.{below-more}
-use borrow.Author.Tests.{eqb-true, leb-true, leb-false}
+use borrow.Author.Tests.{leb-true, leb-false}
 use Rattle.meaning.specs.declared.Kind.{Kind}
 use Rattle.meaning.specs.declared.Kind.the-variants.{Int as int, Bool as bool}
-use Rattle.meaning.specs.Codes.{lengths}
-use Rattle.meaning.specs.Memory.{Declared, Declarations, declared, whole, size, next-multiple, need}
+use Rattle.meaning.specs.Codes.{lengths, declaration-limit}
+use Rattle.meaning.specs.Memory.{Declared, Declarations, whole, size, next-multiple, need}
 use Rattle.meaning.specs.Tree.{kind-number}
 use Rattle.meaning.specs.Typing.{shut, with-one}
 use Rattle.layout.specs.Words.{unit}
 use Rattle.layout.specs.Table.{row-words, word-of, kind-of, entry, entries, with-row, place-column, end-column, kind-column, lanes-column, address-column, open-column}
 use Rattle.layout.proofs.KindNumbers.{kind-back}
-use Rattle.laws.specs.Sound.{Laid}
+use Rattle.laws.specs.Declarations.{whole-limit}
+use Rattle.laws.proofs.Declarations.{by-length}
 use Rattle.typing_expressions.specs.Rows.{Spans, Listed-length, Rows, spelled, end-of, closed, Closes}
-use Rattle.typing_expressions.proofs.Names.{length-entries, entries-at}
+use Rattle.typing_expressions.proofs.Names.{length-entries}
 
 -- ---- lengths and sizes
--- A fact of each length of the list is one of every listed length.
-pub by-list : (P : ℕ → Type 0) → P 1 → P 2 → P 4 → P 8 → P 16 → (n : ℕ) → Listed-length n → P n
-unfolding lengths
-by-list P a b c d e n l = go (eqb n 1) refl (eqb n 2) refl (eqb n 4) refl (eqb n 8) refl (eqb n 16) refl (l .is)
-  where
-    go : (s : Bool) → eqb n 1 ≡ s → (t : Bool) → eqb n 2 ≡ t → (u : Bool) → eqb n 4 ≡ u → (v : Bool) → eqb n 8 ≡ v → (w : Bool) → eqb n 16 ≡ w
-        → (s || (t || (u || (v || (w || false))))) ≡ true → P n
-    go true q t _ u _ v _ w _ h = rw (eqb-true n 1 q) a
-    go false _ true q u _ v _ w _ h = rw (eqb-true n 2 q) b
-    go false _ false _ true q v _ w _ h = rw (eqb-true n 4 q) c
-    go false _ false _ false _ true q w _ h = rw (eqb-true n 8 q) d
-    go false _ false _ false _ false _ true q h = rw (eqb-true n 16 q) e
-    go false _ false _ false _ false _ false _ h = absurd (true≢false (sym h))
-
--- A whole size is from 1 to 64, and 64 is a multiple of it.
+-- A whole size is at least 1, and the largest is a multiple of it.
 pub record Size (s : ℕ) : Type 0 where
   pub some : 0 < s
-  pub few : s ≤ 64
+  pub few : s ≤ whole-limit
   pub times : ℕ
-  pub is : times * s ≡ 64
+  pub is : times * s ≡ whole-limit
 
-of : (s t : ℕ) → 0 < s → s ≤ 64 → t * s ≡ 64 → Size s
+of : (s t : ℕ) → 0 < s → s ≤ whole-limit → t * s ≡ whole-limit → Size s
 of s t p f e = record { some = p; few = f; times = t; is = e }
 
 pub listed-one : Listed-length 1
 unfolding lengths
 listed-one = record { is = refl }
 
-pub listed-some : {n : ℕ} → Listed-length n → 0 < n
-listed-some {n} l = by-list (λ n. 0 < n) (omega arith) (omega arith) (omega arith) (omega arith) (omega arith) n l
-
-pub listed-few : {n : ℕ} → Listed-length n → n ≤ 16
-listed-few {n} l = by-list (λ n. n ≤ 16) (omega arith) (omega arith) (omega arith) (omega arith) (omega arith) n l
-
 pub whole-size : (k : Kind) {n : ℕ} → Listed-length n → Size (whole k n)
 unfolding whole size
-whole-size int {n} l = by-list (λ n. Size (n * 4)) (of 4 16 (omega arith) (omega arith) refl) (of 8 8 (omega arith) (omega arith) refl) (of 16 4 (omega arith) (omega arith) refl) (of 32 2 (omega arith) (omega arith) refl) (of 64 1 (omega arith) (omega arith) refl) n l
-whole-size bool {n} l = by-list (λ n. Size (n * 1)) (of 1 64 (omega arith) (omega arith) refl) (of 2 32 (omega arith) (omega arith) refl) (of 4 16 (omega arith) (omega arith) refl) (of 8 8 (omega arith) (omega arith) refl) (of 16 4 (omega arith) (omega arith) refl) n l
+whole-size int {n} l =
+    by-length (λ n. Size (n * 4)) n (l .is)
+    (of 4 64 (omega arith) (omega arith) refl)
+    (of 8 32 (omega arith) (omega arith) refl)
+    (of 16 16 (omega arith) (omega arith) refl)
+    (of 32 8 (omega arith) (omega arith) refl)
+    (of 64 4 (omega arith) (omega arith) refl)
+    (of 128 2 (omega arith) (omega arith) refl)
+    (of 256 1 (omega arith) (omega arith) refl)
+whole-size bool {n} l =
+    by-length (λ n. Size (n * 1)) n (l .is)
+    (of 1 256 (omega arith) (omega arith) refl)
+    (of 2 128 (omega arith) (omega arith) refl)
+    (of 4 64 (omega arith) (omega arith) refl)
+    (of 8 32 (omega arith) (omega arith) refl)
+    (of 16 16 (omega arith) (omega arith) refl)
+    (of 32 8 (omega arith) (omega arith) refl)
+    (of 64 4 (omega arith) (omega arith) refl)
 
 -- ---- addresses
 module _ {s : ℕ} (z : Size s) (end : ℕ) where
@@ -70,11 +67,11 @@ module _ {s : ℕ} (z : Size s) (end : ℕ) where
   unfolding next-multiple
   after-end = omega (arith, div-add-mod' (end + (s - 1)) s, mod-lt (end + (s - 1)) (z .some), z .some)
 
-  -- 64 for each of the declarations so far is a multiple of the size, so the next multiple stays below it.
-  pub in-reach : (c : ℕ) → end ≤ 64 * c → next-multiple end s ≤ 64 * c
+  -- The largest size for each of the declarations so far is a multiple of the size, so the next multiple stays below it.
+  pub in-reach : (c : ℕ) → end ≤ whole-limit * c → next-multiple end s ≤ whole-limit * c
   unfolding next-multiple
   in-reach c h =
-      let e : 64 * c ≡ c * z .times * s = mul-comm 64 c ∙ rw (← z .is) (sym (mul-assoc c (z .times) s)) in
+      let e : whole-limit * c ≡ c * z .times * s = mul-comm whole-limit c ∙ rw (← z .is) (sym (mul-assoc c (z .times) s)) in
       let q : (end + (s - 1)) / s < suc (c * z .times) = div-lt-iff-lt-mul (z .some) .1 (rw (suc-mul (c * z .times) s, ← e) (omega (arith, z .some))) in
       rw e (mul-le-mul-right s (omega arith))
 
@@ -94,20 +91,6 @@ pub last-end : (table : List ℕ) (n : ℕ) {a s l : ℕ} {k : Kind} → (n ≡ 
 unfolding end-of
 last-end table zero h ea es ek el = absurd (h refl)
 last-end table (suc n) h ea es ek el = let e : suc n - 1 ≡ n = omega arith in rw (es, ek, el, ea, e)
-
--- ---- what a table keeps to, as declarations
-pub rows-laid : {text table : List ℕ} {count : ℕ} → Rows text table count → Laid (entries text table count)
-unfolding declared entry end-of
-rows-laid {text} {table} {count} r = record {
-  few = omega (arith, length-entries text table count, r .few);
-  some-lanes = λ i l. rw (entries-at text table count i _ (low i l)) (listed-some (r .listed i (low i l)));
-  few-lanes = λ i l. rw (entries-at text table count i _ (low i l)) (listed-few (r .listed i (low i l)));
-  ends = λ i l. rw (entries-at text table count i _ (low i l), need-entries text table count) (r .ends i (low i l));
-  small = rw (need-entries text table count, length-entries text table count) (r .small);
-}
-  where
-    low : (i : ℕ) → i < length (entries text table count) → i < count
-    low i l = omega (arith, length-entries text table count)
 
 -- ---- a unit of words that is written
 module _ (l : List ℕ) (n a b c : ℕ) where
@@ -203,7 +186,7 @@ module _ {T U : List ℕ} {n place end lanes : ℕ} (text : List ℕ) (k : Kind)
     need-entries text T n,
   ))
 
-  pub added-rows : Rows text T n → n < 64 → Spans text place end → Listed-length lanes → Rows text U (n + 1)
+  pub added-rows : Rows text T n → n < declaration-limit → Spans text place end → Listed-length lanes → Rows text U (n + 1)
   unfolding end-of
   added-rows r l w s = record {
     short = r .short;
@@ -221,7 +204,7 @@ module _ {T U : List ℕ} {n place end lanes : ℕ} (text : List ℕ) (k : Kind)
       up : end-of T n ≤ next-multiple (end-of T n) (whole k lanes)
       up = after-end z (end-of T n)
 
-      far : next-multiple (end-of T n) (whole k lanes) ≤ 64 * n
+      far : next-multiple (end-of T n) (whole k lanes) ≤ whole-limit * n
       far = in-reach z (end-of T n) n (r .small)
 
       old : (i : ℕ) → i ≤ n → end-of U i ≡ end-of T i

@@ -11,6 +11,7 @@ use Rattle.meaning.specs.Memory.{Declarations, whole}
 use Rattle.meaning.specs.Typing.{find, shut}
 use Rattle.layout.specs.Sizes.{table-room}
 use Rattle.layout.specs.Table.{word-of, kind-of, entries, place-column, end-column, kind-column, lanes-column, address-column}
+use Rattle.laws.specs.Declarations.{whole-limit}
 use Rattle.typing_expressions.specs.declared.Found.{Found}
 use Rattle.typing_expressions.specs.declared.Found.the-variants.{At, Nothing}
 
@@ -23,7 +24,7 @@ pub record Spans (text : List ℕ) (place end : ℕ) : Type 0 where
   pub order : place ≤ end
   pub inside : end ≤ length text
 
--- "N is 1, 2, 4, 8 or 16": so is every length.
+-- N is of the list; so is every length.
 pub record Listed-length (n : ℕ) : Type 0 where
   pub is : n among lengths ≡ true
 
@@ -31,10 +32,6 @@ pub record Listed-length (n : ℕ) : Type 0 where
 unfoldable pub end-of : List ℕ → ℕ → ℕ
 end-of table zero = 0
 end-of table (suc n) = word-of table n address-column + whole (kind-of (word-of table n kind-column)) (word-of table n lanes-column)
-
--- The bytes of the largest variable: 16 ints.
-abbrev pub whole-limit : ℕ
-whole-limit = 16 * 4
 
 -- A table of declarations, with room for as many as a text may have, of a text within its limit: their names stand in the text,
 -- their lengths are of the list, and they end before the last one's end, which is at most the largest variable for each.

@@ -17,8 +17,8 @@ use Rattle.layout.specs.Words.{kind-tag, block-length, block-place, value-place
 use Rattle.layout.specs.Heads.{declaration-head, value-word}
 use Rattle.laws.specs.Sound.{Placed, no-block, at-place, Valued, no-value, a-value}
 use Rattle.meaning.specs.Typing.{lanes-or}
+use Rattle.laws.proofs.Declarations.{listed-some}
 use Rattle.typing_expressions.specs.Rows.{Listed-length}
-use Rattle.typing_expressions.proofs.Tables.{listed-some}
 use Rattle.typing_simple.specs.Shapes.{listed-block, part, Declaration, Plain-declaration, Initial-declaration}
 use Rattle.typing_simple.specs.Answers.{length-or}
 
@@ -43,7 +43,7 @@ block-listed (at-place {p = q} l i) n p = rw (← p, ← n, ne-eqb q 0 (λ z. om
 pub length-good : (b : Block) (n : ℕ) → listed-block b ≡ true → length-or (block-length b) n ≡ lanes-or n b
 unfolding listed-block length-or block-length lanes-or
 length-good none n g = refl
-length-good (some m) n g = rw (ne-eqb (m .0) 0 (λ z. absurd (omega (arith, listed-some (record { is = g })))))
+length-good (some m) n g = rw (ne-eqb (m .0) 0 (λ z. absurd (omega (arith, listed-some (m .0) g))))
 
 pub block-good : (b : Block) → listed-block b ≡ true → eqb (block-length b) 0 ≡ false → Listed-length (block-length b)
 unfolding listed-block block-length

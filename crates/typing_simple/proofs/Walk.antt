@@ -20,11 +20,11 @@ use Rattle.layout.specs.Code.{code-words, program-words}
 use Rattle.layout.specs.Stack.{slot-kind, slot-lanes, slot-word}
 use Rattle.layout.specs.Table.{kind-of, entries}
 use Rattle.laws.specs.Sound.{Spelled}
+use Rattle.laws.proofs.Declarations.{listed-some}
 use Rattle.typing_expressions.specs.declared.Point.{Point}
 use Rattle.typing_expressions.specs.Rows.{Spans, Listed-length, Rows, spelled}
 use Rattle.typing_expressions.specs.Nodes.{a-name}
 use Rattle.typing_expressions.specs.Answers.{Types-node, Types-name, Typing-room, Types-as, number-out, Declares-name}
-use Rattle.typing_expressions.proofs.Tables.{listed-some}
 use Rattle.typing_expressions.proofs.Walk.{limit}
 use Rattle.layout.specs.declared.Stage.{Stage}
 use Rattle.layout.specs.declared.Stage.the-variants.{Done, Refused}
@@ -88,7 +88,7 @@ module _ {text tree table code stack : List ℕ} {at : Point} (g : Typing-room t
 
       out : typed-statement (at .context) s (entries text table (at .count))
           ≡ after (valued (at .context) (target (getD tree equals-word 0) k m) (a .value) (entries text table (at .count))) (λ v Δ. ok (put (getD tree place-word 0) w (v .code)) Δ)
-      out = rw (a .is) (Outcomes.assign-out found (listed-some (name-listed (g .listed) (g .rows) found)) (getD tree equals-word 0) (a .value))
+      out = rw (a .is) (Outcomes.assign-out found (listed-some _ (name-listed (g .listed) (g .rows) found .is)) (getD tree equals-word 0) (a .value))
 
       module _ {code₁ stack₂ : List ℕ} {end u : ℕ} {v : Stage} (eu : u ≡ getD tree equals-word 0)
           (sh : Types-as (take (at .size + long-head) code) code₁ stack₂ (at .count) end (entries text table (at .count)) v (valued (at .context) (target u k m) (a .value) (entries text table (at .count)))) where

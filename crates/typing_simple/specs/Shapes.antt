@@ -40,7 +40,7 @@ pub record Declaration (text words : List ℕ) (s : Stmt) : Type 0 where
   pub value-is : part words declaration-head (length words) ≡ value-words value
   pub valued : Valued text value
 
--- "N is 1, 2, 4, 8 or 16", where there is one.
+-- N is of the list, where there is one.
 unfoldable pub listed-block : Block → Bool
 listed-block none = true
 listed-block (some n) = n .0 among lengths

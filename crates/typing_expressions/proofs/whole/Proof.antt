@@ -2,7 +2,7 @@
 use native.Mathlib.Omega.{arith}
 use borrow.Author.Needs.{needs}
 use Rattle.meaning.specs.Memory.{whole, size}
-use Rattle.typing_expressions.proofs.Tables.{listed-few}
+use Rattle.laws.proofs.Declarations.{listed-few}
 use Rattle.typing_expressions.proofs.whole.Statement.{statement}
 use Rattle.typing_expressions.proofs.whole.Tie as tie
 
@@ -10,7 +10,7 @@ enum-told : tie.Need-enum-told
 enum-told c = search needs
 
 mul-result : tie.Need-mul-result
-mul-result c = omega (arith, listed-few (c .before .before .pre))
+mul-result c = omega (arith, listed-few _ (c .before .before .pre .is))
 
 enum-told-2 : tie.Need-enum-told-2
 enum-told-2 c = search needs
