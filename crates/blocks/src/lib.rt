@@ -7,7 +7,7 @@ ghost use lib.ListN.{length, take, drop, replicate};
 ghost use Rattle.meaning.specs.declared.Kind.the-variants.{Int as int, Bool as bool};
 ghost use Rattle.meaning.specs.Memory.{truth, bit as lane-bit, whole, load as loaded, store as stored};
 ghost use Rattle.meaning.specs.Running.{word-binary, unary-of, binary-of};
-ghost use Rattle.layout.specs.Instructions.{chunk-lanes};
+ghost use Rattle.layout.specs.Instructions.{chunk-lanes, mask-bits};
 ghost use Rattle.operators.specs.Operators.{int-size, Sum, Order, Join};
 ghost use Rattle.blocks.specs.Masks.{bits, number};
 ghost use Rattle.blocks.specs.Chunks.{placed, padded, in-chunk, four-ints};
@@ -21,6 +21,17 @@ use operators::put_int;
 
 // The lanes of a chunk.
 const CHUNK: usize = layout::instruction::CHUNK;
+
+// The bytes of n lanes of a kind.
+pub fn whole(kind: Kind, n: usize) -> usize
+    requires { ⌜ n ≤ mask-bits ⌝ }
+    ensures { λ r. ⌜ r ≡ whole kind n ⌝ }
+{
+    match kind {
+        Kind::Int => n * INT,
+        Kind::Bool => n,
+    }
+}
 
 // `+`, `-` or `*`, lane by lane.
 fn sums(operator: Binary, x: [u32; 16], y: [u32; 16]) -> [u32; 16]

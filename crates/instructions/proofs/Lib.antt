@@ -1,7 +1,9 @@
 pub mod Tags
 pub mod Standing
+pub mod Parts
 pub mod Leaving
 pub mod Ready
 pub mod Active
 pub mod Tests
+pub mod Chunks
 pub mod Stores
