@@ -9,7 +9,7 @@ use Rattle.meaning.specs.Tokens.{bytes}
 use Rattle.meaning.specs.Memory.{Memory, number-of}
 use Rattle.meaning.specs.Services.{Answer, answer}
 use Rattle.print.specs.Printed.{Printed}
-use Rattle.print.specs.Shown.{held, line, rows, row-count, shown}
+use Rattle.print.specs.Shown.{row-size, held, line, rows, row-count, shown}
 use Rattle.print.proofs.Printing.{printed-both}
 use Rattle.print.proofs.Numbers.{ten-digits, line-length}
 use Rattle.print.proofs.Rows.{hex-length}
@@ -35,17 +35,17 @@ pub shown-both : (u : Answer) (M : Memory) {a b c : List ℕ} {i j k : ℕ} → 
 unfolding shown
 shown-both u M p q = printed-both p q
 
--- A row has at most 33 bytes, so the page of a memory of 4,096 bytes has at most four numbers of ten digits, each with the
--- byte that ends it, and 256 rows.
-rows-length : (k : ℕ) (M : Memory) → length (rows k M) ≤ 33 * k
+-- A row has at most two digits for each of its bytes and the byte that ends it, so the page of a memory of at most k rows has at most
+-- four numbers of ten digits, each with the byte that ends it, and k such rows.
+rows-length : (k : ℕ) (M : Memory) → length (rows k M) ≤ k * (2 * row-size + 1)
 unfolding rows bytes
 rows-length zero M = omega arith
-rows-length (suc k) M = simp length-append (omega (arith, hex-length (take 16 M), length-take 16 M, rows-length k (drop 16 M)))
+rows-length (suc k) M = simp length-append (omega (arith, hex-length (take row-size M), length-take row-size M, rows-length k (drop row-size M)))
 
-pub shown-fits : (c p n s : ℕ) (M : Memory) → c < 2 ^ 32 → p < 2 ^ 32 → n < 2 ^ 32 → s < 2 ^ 32 → length M ≤ 4096
-    → length (shown (answer c p n s, M)) ≤ 8492
+pub shown-fits : (c p n s : ℕ) (M : Memory) (k : ℕ) → c < 2 ^ 32 → p < 2 ^ 32 → n < 2 ^ 32 → s < 2 ^ 32 → length M ≤ k * row-size
+    → length (shown (answer c p n s, M)) ≤ 4 * (10 + 1) + k * (2 * row-size + 1)
 unfolding row-count
-shown-fits c p n s M hc hp hn hs short =
+shown-fits c p n s M k hc hp hn hs short =
     omega (arith, shown-length (answer c p n s) M, line-length c p n s, ten-digits c hc, ten-digits p hp, ten-digits n hn, ten-digits s hs, rows-length (row-count M) M)
 
 -- What is printed from the page's start on is its first bytes.

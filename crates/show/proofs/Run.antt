@@ -1,17 +1,17 @@
 -- What is shown of a call of `ruihmento_run` is what is shown of the run, and a page has room for it. Assumes nothing.
-use Prim.Native.Nat.{ℕ, _≤_}
+use Prim.Native.Nat.{ℕ, _/_, _≤_}
 use mathlib.Core.Path.{_≡_, refl, ap, _∙_}
 use mathlib.Core.List.{List}
 use native.Mathlib.Omega.{arith}
 use lib.ListN.{length, length-take}
 use Rattle.meaning.specs.Memory.{Memory}
 use Rattle.meaning.specs.Services.{Answer, answer, answer-bytes, run, run-call, Kept}
-use Rattle.laws.specs.Words.{Words}
+use Rattle.laws.specs.Words.{need-limit, Words}
 use Rattle.laws.proofs.Services.{run-words}
 use Rattle.promises.specs.Promise.{number-at, numbers-in}
 use Rattle.promises.proofs.Demands.{run-delivers, run-reads}
 use Rattle.print.specs.Printed.{Printed}
-use Rattle.print.specs.Shown.{held, shown}
+use Rattle.print.specs.Shown.{row-size, held, shown}
 use Rattle.print.proofs.Printing.{printed-length}
 use Rattle.print.proofs.Page.{shown-fits, page-start}
 use Rattle.show.specs.Page.{budget, memory-limit, page-limit, Shows}
@@ -22,8 +22,8 @@ unfolding held numbers-in number-at
 held-is s = refl
 
 page-room : (a : Answer) (M : Memory) → Words a → length M ≤ memory-limit → length (shown (a, M)) ≤ page-limit
-unfolding answer
-page-room a M w short = shown-fits (a .code) (a .place) (a .need) (a .steps) M (w .code) (w .place) (w .need) (w .steps) short
+unfolding answer need-limit
+page-room a M w short = shown-fits (a .code) (a .place) (a .need) (a .steps) M (memory-limit / row-size) (w .code) (w .place) (w .need) (w .steps) (omega arith)
 
 -- The slice s and the memory l after the run of a text over the memory M.
 pub record Ran (text M s l : List ℕ) : Type 0 where

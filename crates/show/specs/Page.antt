@@ -5,6 +5,7 @@ use mathlib.Core.List.{List}
 use lib.ListN.{take}
 use Rattle.meaning.specs.Memory.{Memory}
 use Rattle.meaning.specs.Services.{run}
+use Rattle.laws.specs.Words.{need-limit}
 use Rattle.print.specs.Shown.{row-size, shown}
 use Rattle.io.specs.Counts.{Counts}
 
@@ -12,9 +13,9 @@ use Rattle.io.specs.Counts.{Counts}
 abbrev pub budget : ℕ
 budget = 1000
 
--- "`memory.bin` (its first 4,096 bytes)"
+-- "`memory.bin` (its first .. bytes)": document 02, R-9: "need can reach 16,384, and the printing program reads that many bytes".
 abbrev pub memory-limit : ℕ
-memory-limit = 4096
+memory-limit = need-limit
 
 -- The bytes of the longest page: four numbers of ten digits, each with the byte that ends it, and the rows of that memory, each with two
 -- digits a byte and the byte that ends it.

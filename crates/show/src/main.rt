@@ -1,4 +1,4 @@
-// Runs `routine.txt` over the first 4,096 bytes of `memory.bin` with a budget of 1,000, and prints the answer and the memory.
+// Runs `routine.txt` over the first 16,384 bytes of `memory.bin` with a budget of 1,000, and prints the answer and the memory.
 //
 // Proved: the bytes that are handed to standard output are what is shown of that run, for the bytes that came from the two
 // files (`fill_page`), and the program is safe and ends. No contract can say what is read from a file or written to standard
@@ -17,8 +17,8 @@ const BUDGET: u32 = 1000;
 // One byte more than a text may have, so that a longer routine is refused and not cut.
 const TEXT: usize = limit::TEXT + 1;
 
-// The bytes of `memory.bin` that are read, and those of a row in which they are printed.
-const MEMORY: usize = 4096;
+// The bytes of `memory.bin` that are read, as many as a routine can need, and those of a row in which they are printed.
+const MEMORY: usize = 16384;
 
 const ROW: usize = 16;
 

@@ -2,6 +2,7 @@
 use mathlib.Core.Path.{ap}
 use native.Mathlib.Omega.{arith}
 use lib.ListN.{length-take}
+use Rattle.laws.specs.Words.{need-limit}
 use Rattle.show.specs.Reading.{count-of}
 use borrow.Author.Needs.{needs}
 use Rattle.show.proofs.main.Statement.{statement}
@@ -73,6 +74,7 @@ slice-aggregate-fill-page-3 : tie.Need-slice-aggregate-fill-page-3
 slice-aggregate-fill-page-3 c = search needs
 
 fill-page-requires : tie.Need-fill-page-requires
+unfolding need-limit
 fill-page-requires c κs = (simp length-take (omega (arith, c .before .before .before .before .before .before .before .read-start2 .kept)), omega arith)
 
 array-share-prefix-page : tie.Need-array-share-prefix-page
