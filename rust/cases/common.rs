@@ -9,6 +9,9 @@ use crate::side::{judge, run, Answer};
 /// A budget that suffices for every run here that ends.
 pub const PLENTY: u32 = 10_000;
 
+/// The most bytes of memory that a text can need.
+pub const MOST_NEED: usize = 16_384;
+
 /// The routine of document 01.
 pub const ROUTINE: &str = "bool block[4] ok; int block[4] s; int block[4] t = 10; \
     if (ok) { if (s < t) s = s + t; else s = s - t; } else ;";
@@ -41,9 +44,9 @@ pub fn verdict(text: impl AsRef<[u8]>) -> (u32, u32) {
     let answer = judge(text);
     assert_eq!(answer.steps, 0);
     if answer.code != 0 {
-        let mut memory = [0x5a; 4096];
+        let mut memory = [0x5a; MOST_NEED];
         assert_eq!(run(text, &mut memory, PLENTY), answer);
-        assert_eq!((answer.need, memory), (0, [0x5a; 4096]));
+        assert_eq!((answer.need, memory), (0, [0x5a; MOST_NEED]));
     }
     (answer.code, answer.place as u32)
 }

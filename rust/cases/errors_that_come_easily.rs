@@ -2,7 +2,7 @@
 //! reach: for each, a case that the error would change.
 
 use crate::addresses;
-use crate::common::{after, ints, ints_after, routine_memory, verdict, ROUTINE};
+use crate::common::{after, ints, ints_after, routine_memory, verdict, MOST_NEED, ROUTINE};
 
 /// "Running an inner else under not-m alone: in the routine above 90 becomes 80."
 #[test]
@@ -83,10 +83,12 @@ fn text_of_4096_bytes_is_accepted_and_of_4097_refused() {
 }
 
 #[test]
-fn greatest_need_is_4096() {
-    let text: String = (0..64).map(|v| format!("int block[16] v{v};")).collect();
-    assert_eq!(after(&text, &[3; 4096]), ([0, 0, 4096, 64], vec![3; 4096]));
-    assert_eq!(after(&text, &[3; 4095]), ([12, 0, 4096, 0], vec![3; 4095]));
+fn greatest_need_is_16384() {
+    let text: String = (0..64).map(|v| format!("int block[64] v{v};")).collect();
+    let whole = vec![3; MOST_NEED];
+    assert_eq!(after(&text, &whole), ([0, 0, 16_384, 64], whole.clone()));
+    let short = vec![3; MOST_NEED - 1];
+    assert_eq!(after(&text, &short), ([12, 0, 16_384, 0], short.clone()));
 }
 
 /// The same inside the second branch, whose mask is not-m of the outer condition.

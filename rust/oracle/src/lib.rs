@@ -1,9 +1,9 @@
-//! An independent judge and runner for lane routines, written from document 01 alone (and
-//! [`run_each`] from the sentence that it quotes).
+//! An independent judge and runner for lane routines, written from document 01 and the requests of
+//! document 02 that are named, and from them alone ([`run_each`] from the sentence that it quotes).
 //!
 //! A text passes one module after another: `tokens`, `reading` into a `tree`, `typing` into a
 //! `program` with its addresses from `memory`, then `running` on `lanes`.
-//! Comments quote document 01 under the heading they name.
+//! Comments quote document 01 under the heading they name, and document 02 by its requests.
 #![forbid(unsafe_code)]
 #![warn(missing_docs)]
 

@@ -307,7 +307,7 @@ impl Typing<'_> {
     }
 }
 
-/// Typing: "N is 1, 2, 4, 8 or 16"; Codes: 7 at N.
+/// Codes: 7 at N, "N not in the list"; document 02, R-9: code 7 reads "with the new list".
 fn block_length(number: u32, place: u32) -> Typed<Length> {
     if !LENGTHS.contains(&number) {
         return Err(Refusal::new(Code::LengthNotListed, place));

@@ -208,13 +208,20 @@ fn names_already_open() {
 
 #[test]
 fn block_lengths() {
-    for n in [1, 2, 4, 8, 16] {
+    for n in [1, 2, 4, 8, 16, 32, 64] {
         assert_eq!(verdict(format!("int block[{n}] v;")), (0, 0));
     }
-    for n in [0, 3, 5, 6, 7, 9, 15, 17, 32, 64, 2147483647] {
-        assert_eq!(verdict(format!("int block[{n}] v;")), (7, 10));
+    for n in (0..=300).chain([320, 512, 1024, 65536, 65600, 2147483647]) {
+        let listed = [1, 2, 4, 8, 16, 32, 64].contains(&n);
+        let expected = if listed { (0, 0) } else { (7, 10) };
+        assert_eq!(verdict(format!("int block[{n}] v;")), expected, "{n}");
+    }
+    for n in [31, 33, 63, 65, 128] {
+        assert_eq!(verdict(format!("bool block[{n}] v = true;")), (7, 11));
     }
     assert_eq!(verdict("int v; bool block[3] v = x;"), (7, 18));
+    assert_eq!(verdict("int v; bool block[128] v = x;"), (7, 18));
+    assert_eq!(verdict("int v; bool block[032] v = x;"), (2, 18));
 }
 
 #[test]
@@ -265,12 +272,20 @@ fn operands_come_before_their_operator_left_to_right() {
 
 const TWO: &str = "bool block[2] m; int block[2] a; int block[4] b; int s; ";
 
+/// Code and place, counted from there, of a text behind these declarations; with blocks of 64 and
+/// 32 lanes for those of 2 and 4 they are the same.
+fn behind_two(text: &str) -> (u32, i64) {
+    let text = format!("{TWO}{text}");
+    let (code, place) = verdict(&text);
+    let longer = text.replace("block[2] ", "block[64]");
+    let longer = longer.replace("block[4] ", "block[32]");
+    assert_eq!(verdict(&longer), (code, place), "{longer}");
+    (code, place as i64 - TWO.len() as i64)
+}
+
 #[test]
 fn wrong_lengths() {
-    let at = |text: &str| {
-        let (code, place) = verdict(format!("{TWO}{text}"));
-        (code, place as i64 - TWO.len() as i64)
-    };
+    let at = behind_two;
     assert_eq!(at("a = a + b;"), (9, 6));
     assert_eq!(at("a = b;"), (9, 2));
     assert_eq!(at("s = a;"), (9, 2));
@@ -303,10 +318,7 @@ fn wrong_lengths() {
 
 #[test]
 fn scalar_targets_in_longer_contexts() {
-    let at = |text: &str| {
-        let (code, place) = verdict(format!("{TWO}{text}"));
-        (code, place as i64 - TWO.len() as i64)
-    };
+    let at = behind_two;
     assert_eq!(at("if (m) s = 1; else ;"), (10, 9));
     assert_eq!(at("if (m) ; else s = 1;"), (10, 16));
     assert_eq!(at("while (m) s = s + 1;"), (10, 12));
@@ -338,15 +350,17 @@ fn the_65th_declaration_is_refused() {
 }
 
 #[test]
-fn need_can_reach_4096() {
-    let text: String = (0..64).map(|i| format!("int block[16] v{i};")).collect();
-    assert_eq!(numbers(judge(text.as_bytes())), [0, 0, 4096, 0]);
-    let mut memory = [7; 4095];
-    assert_eq!(
-        numbers(run(text.as_bytes(), &mut memory, 9)),
-        [12, 0, 4096, 0]
-    );
-    assert_eq!(memory, [7; 4095]);
+fn need_can_reach_16384() {
+    for (length, need) in [(16, 4096), (32, 8192), (64, 16_384)] {
+        let declared = (0..64).map(|i| format!("int block[{length}] v{i};"));
+        let text: String = declared.collect();
+        assert_eq!(numbers(judge(text.as_bytes())), [0, 0, need, 0]);
+        let short = vec![7; need as usize - 1];
+        let mut memory = short.clone();
+        let answer = run(text.as_bytes(), &mut memory, 9);
+        assert_eq!(numbers(answer), [12, 0, need, 0]);
+        assert_eq!(memory, short);
+    }
 }
 
 #[test]

@@ -130,6 +130,28 @@ fn addresses_are_the_next_multiple_of_the_whole_size() {
 }
 
 #[test]
+fn addresses_of_long_blocks_are_multiples_of_256_bytes_at_most() {
+    let text = "bool a; bool block[32] b; bool c; bool block[64] d; int e; int block[32] f; \
+        bool g; int block[64] h; bool i;";
+    let listed = variables(text.as_bytes());
+    assert_eq!(numbers(listed.answer), [0, 0, 769, 9]);
+    let rows = listed.rows.iter();
+    let rows: Vec<_> = rows.map(|row| (row.length, row.address)).collect();
+    let expected = [
+        (1, 0),
+        (32, 32),
+        (1, 64),
+        (64, 128),
+        (1, 192),
+        (32, 256),
+        (1, 384),
+        (64, 512),
+        (1, 768),
+    ];
+    assert_eq!(rows, expected);
+}
+
+#[test]
 fn declaring_without_a_value_leaves_the_bytes() {
     let text = "int n; while (0 < n) { int c; c = c + n; n = n - 1; }";
     let (steps, values) = ints_after(text, &[3, 100]);

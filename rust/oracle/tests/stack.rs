@@ -5,12 +5,12 @@ use oracle as side;
 #[path = "../../cases/common.rs"]
 mod common;
 
-use common::numbers;
+use common::{numbers, MOST_NEED};
 use oracle::run;
 
 /// The four numbers of a run on a small stack, with a memory that suffices.
 fn on_a_small_stack(text: String) -> [u32; 4] {
-    let work = move || numbers(run(text.as_bytes(), &mut [0; 4096], 20_000));
+    let work = move || numbers(run(text.as_bytes(), &mut [0; MOST_NEED], 20_000));
     let thread = std::thread::Builder::new().stack_size(256 * 1024);
     thread.spawn(work).unwrap().join().unwrap()
 }
@@ -48,6 +48,9 @@ fn every_level_and_every_operator_pending() {
     assert_eq!(on_a_small_stack(text), [0, 0, 1, 1]);
     let text = format!("int x = {}1{};", "1|2^3&4+5*(".repeat(32), ")".repeat(32));
     assert_eq!(on_a_small_stack(text), [0, 0, 4, 1]);
+    let open = "a|a^a&a+a*(".repeat(32);
+    let text = format!("int block[64] a; a = {open}a{};", ")".repeat(32));
+    assert_eq!(on_a_small_stack(text), [0, 0, 256, 2]);
 }
 
 #[test]

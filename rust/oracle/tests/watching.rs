@@ -61,6 +61,19 @@ fn lanes_still_in_a_loop() {
 }
 
 #[test]
+fn a_mask_has_64_lanes() {
+    let text = "int block[64] n; while (0 < n) n = n - 1;";
+    let mut lanes = [0; 64];
+    (lanes[0], lanes[63]) = (1, 2);
+    let steps = watched(text, &ints(&lanes));
+    let (every, both) = ("1".repeat(64), format!("1{}1", "0".repeat(62)));
+    let last = format!("{}1", "0".repeat(63));
+    let expected = ["1", &every, &both, &both, &last, &last];
+    let masks: Vec<_> = steps.iter().map(|(_, mask)| &mask[..]).collect();
+    assert_eq!(masks, expected);
+}
+
+#[test]
 fn scalar_has_one_lane_and_a_short_memory_none() {
     let text = "bool block[2] m; if (m) scalar ; else ;";
     let steps = watched(text, &[0, 1]);
