@@ -3,14 +3,20 @@
 
 use crate::expression::Expression;
 use crate::random::Random;
+use crate::well_typed::BLOCK_LENGTHS;
 
 /// How deep statements may stand in one another here.
 const DEEPEST: usize = 3;
 
 /// The tokens of a program with a few declarations and statements of any typing.
 pub fn any_typed(random: &mut Random) -> Vec<String> {
+    let one = *random.pick(&[2, 4, 64]);
+    let other = match random.below(4) {
+        0 => one,
+        _ => *random.pick(&BLOCK_LENGTHS),
+    };
     let mut writer = Writer {
-        lengths: [*random.pick(&[2, 4]), *random.pick(&[2, 4, 8, 16])],
+        lengths: [one, other],
         random,
         tokens: Vec::new(),
     };
@@ -37,15 +43,15 @@ impl Writer<'_> {
 
     /// Appends declarations of both kinds, of length 1 and longer, mostly all or half of them.
     fn heading(&mut self) {
-        let [short, long] = self.lengths;
+        let [one, other] = self.lengths;
         let half = self.random.once_in(3);
         for declaration in [
             "int s ;".to_string(),
             "bool t ;".to_string(),
-            format!("int block [ {short} ] a ;"),
-            format!("bool block [ {short} ] m ;"),
-            format!("int block [ {long} ] b ;"),
-            format!("bool block [ {long} ] k ;"),
+            format!("int block [ {one} ] a ;"),
+            format!("bool block [ {one} ] m ;"),
+            format!("int block [ {other} ] b ;"),
+            format!("bool block [ {other} ] k ;"),
         ] {
             if !self.random.once_in(if half { 2 } else { 30 }) {
                 self.put(&declaration);
@@ -90,7 +96,9 @@ impl Writer<'_> {
         self.put(kind);
         let length = match self.random.below(8) {
             0 => 1,
-            1 => *self.random.pick(&[0, 3, 16, 17, 8]),
+            1 => *self
+                .random
+                .pick(&[0, 3, 8, 16, 17, 31, 32, 33, 63, 64, 65, 128]),
             2..=5 => *self.random.pick(&self.lengths),
             _ => 0,
         };

@@ -27,7 +27,7 @@ pub use narrow::{lane_bytes, narrow, narrow_memory};
 pub use pieces::{pieces, Piece};
 pub use random::Random;
 pub use shrink::shrink;
-pub use well_typed::Wishes;
+pub use well_typed::{Wishes, BLOCK_LENGTHS};
 
 use layout::{layout, Style};
 use well_typed::well_typed;

@@ -14,6 +14,15 @@ const STATEMENT_WAYS: [(&str, &str); 6] = [
     ("while (true) ", ""),
 ];
 
+/// The ways in which a statement opens a level under a mask, where `m` is a block.
+const MASKED_WAYS: [(&str, &str); 5] = [
+    ("{ ", " }"),
+    ("if (m) ", " else ;"),
+    ("if (m) ; else ", ""),
+    ("while (m) ", ""),
+    ("if (true) ", " else ;"),
+];
+
 /// The ways in which an int expression opens a level.
 const INT_WAYS: [(&str, &str); 4] = [("(", ")"), ("-", ""), ("~", ""), ("(1 + ", ")")];
 
@@ -34,8 +43,10 @@ fn wrap(middle: String, ways: &[(&str, &str)], levels: usize, random: &mut Rando
 
 /// Nesting of 30 to 34 levels, by every way of opening one.
 pub fn nesting(random: &mut Random) -> Vec<u8> {
-    if random.once_in(4) {
-        return last_level(random);
+    match random.below(6) {
+        0 => return last_level(random),
+        1 | 2 => return masked_nesting(random),
+        _ => {}
     }
     let levels = random.between(30, 34);
     let outer = match random.below(3) {
@@ -70,6 +81,26 @@ pub fn nesting(random: &mut Random) -> Vec<u8> {
     text.into_bytes()
 }
 
+/// The same under masks, mostly of many lanes: what stands innermost writes some of them.
+fn masked_nesting(random: &mut Random) -> Vec<u8> {
+    let levels = random.between(30, 34);
+    let inner = random.below(levels);
+    let length = *random.pick(&[4, 16, 32, 64, 64]);
+    let middle = match random.below(3) {
+        0 => format!(
+            "m = {};",
+            wrap("current_mask".into(), &BOOL_WAYS, inner, random)
+        ),
+        1 => format!("m = {};", wrap("false".into(), &BOOL_WAYS, inner, random)),
+        _ => {
+            let value = wrap("n".into(), &INT_WAYS, inner, random);
+            format!("int block[{length}] x = {value};")
+        }
+    };
+    let text = wrap(middle, &MASKED_WAYS, levels - inner, random);
+    format!("bool block[{length}] m; int block[{length}] n; {text}").into_bytes()
+}
+
 /// A body whose first token opens the 32nd or 33rd level, perhaps two levels, or is not allowed.
 fn last_level(random: &mut Random) -> Vec<u8> {
     let bodies = [
@@ -94,26 +125,33 @@ fn last_level(random: &mut Random) -> Vec<u8> {
     wrap(middle, &STATEMENT_WAYS, levels, random).into_bytes()
 }
 
-/// 60 to 68 declarations, some in closed scopes, now and then one twice.
+/// 60 to 68 declarations, some in closed scopes, now and then one twice; at times all of the
+/// longest, so that the 64th ends at the greatest need.
 pub fn declarations(random: &mut Random) -> Vec<u8> {
-    let count = random.between(60, 68);
+    let count = *random.pick(&[60, 61, 62, 63, 64, 64, 64, 65, 66, 67, 68]);
     let twice = match random.below(6) {
         0 => Some(random.below(count)),
         1 => Some(64),
         _ => None,
     };
-    let longest = random.once_in(3);
+    let blocks = [" block[64]", " block[32]", " block[16]", " block[4]"];
+    let one = random.once_in(2).then(|| random.token(&blocks));
+    let ints = random.once_in(2);
     let mut text = String::new();
     for index in 0..count {
-        let kind = random.token(&["int", "bool"]);
-        let block = match random.below(6) {
-            _ if longest => " block[16]",
+        let kind = match ints {
+            true => "int",
+            false => random.token(&["int", "bool"]),
+        };
+        let block = one.unwrap_or_else(|| match random.below(8) {
             0 => " block[2]",
             1 => " block[4]",
             2 => " block[8]",
             3 => " block[16]",
+            4 => " block[32]",
+            5 => " block[64]",
             _ => "",
-        };
+        });
         let value = match (random.below(4), kind) {
             (0, "int") => " = 3",
             (0, _) => " = true",
@@ -146,7 +184,9 @@ pub fn long_text(random: &mut Random) -> Vec<u8> {
         ("//", "/", "\n;"),
         ("int zz=1", "+1", ";"),
         ("int zz=1", "*-3", ";"),
+        ("int block[64] zz=1", "*-3", ";"),
         ("bool zz=true", "^false", ";"),
+        ("bool block[32] zz=true", "^false", ";"),
         ("", "{}", ""),
         ("", "a", ""),
         ("int ", "a", ";"),
@@ -200,12 +240,14 @@ pub fn names(random: &mut Random) -> Vec<u8> {
     if other.is_empty() {
         other.push('o');
     }
+    let block = random.token(&["", "", "", " block[64]", " block[32]", " block[4]"]);
     let text = match random.below(4) {
-        0 => format!("int {one}; {one} = {other};"),
-        1 => format!("bool {one} = true; {{ int {other}; }} {one} = !{one};"),
-        2 => format!("int {one}; int {other}; {other} = {one} + {other};"),
+        0 => format!("int{block} {one}; {one} = {other};"),
+        1 => format!("bool{block} {one} = true; {{ int {other}; }} {one} = !{one};"),
+        2 => format!("int{block} {one}; int{block} {other}; {other} = {one} + {other};"),
         _ => format!(
-            "{{int {one} = 5;}} int {other} = 1; while (0 < {other}) {other} = {other} - 1;"
+            "{{int {one} = 5;}} int{block} {other} = 1; \
+             while (0 < {other}) {other} = {other} - 1;"
         ),
     };
     text.into_bytes()
@@ -247,7 +289,7 @@ fn name(random: &mut Random) -> String {
 }
 
 /// Numbers that are one good token.
-const GOOD_NUMBERS: [&str; 12] = [
+const GOOD_NUMBERS: [&str; 19] = [
     "0",
     "1",
     "2",
@@ -257,16 +299,24 @@ const GOOD_NUMBERS: [&str; 12] = [
     "10",
     "16",
     "17",
+    "31",
+    "32",
+    "33",
+    "63",
+    "64",
+    "65",
+    "128",
     "2147483646",
     "2147483647",
     "2147483600",
 ];
 
 /// Numbers that are too large, or start with a zero, or run into a letter.
-const BAD_NUMBERS: [&str; 17] = [
+const BAD_NUMBERS: [&str; 18] = [
     "00",
     "01",
     "016",
+    "064",
     "2147483648",
     "2147483650",
     "2147483700",
@@ -283,6 +333,11 @@ const BAD_NUMBERS: [&str; 17] = [
     "1_",
 ];
 
+/// Lengths of blocks, and numbers beside them.
+const LENGTHS: [&str; 14] = [
+    "1", "2", "4", "8", "16", "32", "64", "0", "3", "31", "33", "63", "65", "128",
+];
+
 /// Numbers round the limits, as values, lengths and parts of other tokens.
 pub fn numbers(random: &mut Random) -> Vec<u8> {
     let mut number = || match random.below(4) {
@@ -290,11 +345,15 @@ pub fn numbers(random: &mut Random) -> Vec<u8> {
         _ => random.token(&GOOD_NUMBERS),
     };
     let (one, other) = (number(), number());
+    let length = match random.below(2) {
+        0 => random.token(&LENGTHS),
+        _ => one,
+    };
     let text = match random.below(7) {
         0 => format!("int x = {one};"),
         1 => format!("int x = -{one} - {other};"),
-        2 => format!("int block[{one}] v;"),
-        3 => format!("int block[{one}] v = {other};"),
+        2 => format!("int block[{length}] v;"),
+        3 => format!("int block[{length}] v = {other};"),
         4 => format!("bool b = {one} < {other};"),
         5 => format!("int x = {one} * {other} + {one};"),
         _ => format!("int x; x = ~{one}; x = {other};"),

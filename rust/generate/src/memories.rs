@@ -25,15 +25,54 @@ pub(crate) fn memory_of(rows: &[Row], length: usize, random: &mut Random) -> Vec
         _ => (0..length).map(|_| random.byte()).collect(),
     };
     for row in rows {
-        for lane in 0..row.length as usize {
+        let lanes = row.length as usize;
+        let apart = apart(lanes, random);
+        let two = [value(random), value(random)];
+        for lane in 0..lanes {
             let size = if row.kind == 0 { 4 } else { 1 };
             let at = row.address as usize + lane * size;
-            if at + size <= length {
-                fill(&mut memory[at..at + size], random);
+            if at + size > length {
+                break;
+            }
+            let element = &mut memory[at..at + size];
+            match apart.map(|apart| apart >> lane & 1 == 1) {
+                Some(apart) => put(element, two[usize::from(apart)], apart),
+                None => fill(element, random),
             }
         }
     }
     memory
+}
+
+/// Which lanes of a block stand apart from the others, one bit a lane, lane 0 lowest: none or all
+/// of them, the last, one, or those from one on. Nothing where each lane is for itself.
+fn apart(length: usize, random: &mut Random) -> Option<u64> {
+    let every = u64::MAX >> (64 - length);
+    let (one, last) = (1 << random.below(length), 1 << (length - 1));
+    let apart = match random.below(12) {
+        _ if length == 1 => return None,
+        0 => 0,
+        1 => every,
+        2 => last,
+        3 => every ^ last,
+        4 => one,
+        5 => every ^ one,
+        6 => every & !(one - 1),
+        _ => return None,
+    };
+    Some(apart)
+}
+
+/// Writes a lane: this int, or a bool that is true or not.
+fn put(element: &mut [u8], value: i32, truth: bool) {
+    if let [byte] = element {
+        *byte = match truth {
+            true => [1, 2, 128, 255][value as usize % 4],
+            false => 0,
+        };
+        return;
+    }
+    element.copy_from_slice(&value.to_le_bytes());
 }
 
 /// A small int, one at the limits or any; a bool of 0, 1 or another byte.
@@ -43,13 +82,17 @@ fn fill(element: &mut [u8], random: &mut Random) {
         *truth = *random.pick(&[0, 0, 0, 1, 1, 2, 128, 255, other]);
         return;
     }
+    element.copy_from_slice(&value(random).to_le_bytes());
+}
+
+/// A small int, one at the limits or any.
+fn value(random: &mut Random) -> i32 {
     let edges = [i32::MIN, i32::MIN + 1, -1, 0, 1, i32::MAX - 1, i32::MAX];
-    let value = match random.below(6) {
+    match random.below(6) {
         0 => *random.pick(&edges),
         1 => random.bits() as i32,
         _ => random.between(0, 25) as i32 - 6,
-    };
-    element.copy_from_slice(&value.to_le_bytes());
+    }
 }
 
 /// A budget for this text: small or ample, the greatest only where nothing can loop.

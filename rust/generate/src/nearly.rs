@@ -52,7 +52,9 @@ fn replace(
 fn block_length(tokens: &mut [String], random: &mut Random) -> Option<()> {
     let number = |index: usize| index >= 2 && tokens[index - 2] == "block";
     let index = find(tokens, random, number)?;
-    let numbers = ["1", "2", "4", "8", "16", "0", "3", "5", "17", "32"];
+    let numbers = [
+        "1", "2", "4", "8", "16", "32", "64", "0", "3", "17", "31", "33", "63", "65", "128",
+    ];
     tokens[index] = random.token(&numbers).into();
     Some(())
 }
@@ -72,7 +74,7 @@ fn with_block(tokens: &mut Vec<String>, random: &mut Random) -> Option<()> {
         ["int", "bool"].contains(&tokens[index].as_str()) && next != Some("block")
     };
     let index = find(tokens, random, scalar)?;
-    let number = random.token(&["1", "2", "4", "8", "16"]);
+    let number = random.token(&["1", "2", "4", "8", "16", "32", "64"]);
     let block = ["block", "[", number, "]"].map(String::from);
     tokens.splice(index + 1..index + 1, block);
     Some(())
@@ -172,13 +174,14 @@ fn insert_unary(tokens: &mut Vec<String>, random: &mut Random) -> Option<()> {
 /// A statement that may not fit where it stands.
 fn insert_statement(tokens: &mut Vec<String>, random: &mut Random) -> Option<()> {
     let to = simple(tokens, random).map_or(0, |(start, _)| start);
-    let statements: [&[&str]; 8] = [
+    let statements: [&[&str]; 9] = [
         &["int", "new", "=", "1", ";"],
         &["bool", "new", "=", "true", ";"],
         &["int", "x", ";"],
         &["x", "=", "1", ";"],
         &["bool", "ok", "=", "current_mask", ";"],
         &["int", "block", "[", "4", "]", "s", "=", "1", ";"],
+        &["int", "block", "[", "64", "]", "s", "=", "1", ";"],
         &["scalar", "a", "=", "0", ";"],
         &["while", "(", "b", ")", "c", "=", "c", ";"],
     ];

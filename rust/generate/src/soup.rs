@@ -4,7 +4,7 @@ use crate::layout::{layout, Style};
 use crate::random::Random;
 
 /// Every reserved word and sign, with some names and numbers.
-const TOKENS: [&str; 43] = [
+const TOKENS: [&str; 45] = [
     "int",
     "bool",
     "block",
@@ -46,17 +46,21 @@ const TOKENS: [&str; 43] = [
     "2",
     "4",
     "16",
+    "32",
+    "64",
     "2147483647",
     "3",
 ];
 
 /// Starts that let some soup get further than its first token.
-const STARTS: [&str; 8] = [
+const STARTS: [&str; 10] = [
     "",
     "int x ;",
     "int x = ",
     "bool b = (",
     "int block [ 4 ] a ; a =",
+    "int block [ 64 ] a ; a =",
+    "bool block [ 32 ] b ; if ( b ) { ",
     "if ( true ) ; else",
     "while ( 1 <",
     "bool b ; if ( b ) { ",

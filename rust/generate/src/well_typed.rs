@@ -3,6 +3,9 @@
 use crate::expression::Expression;
 use crate::random::Random;
 
+/// The lengths of blocks, but for 1.
+pub const BLOCK_LENGTHS: [usize; 6] = [2, 4, 8, 16, 32, 64];
+
 /// What a program may hold.
 #[derive(Clone, Debug)]
 pub struct Wishes {
@@ -31,7 +34,7 @@ impl Wishes {
             statements: random.between(1, size),
             depth: if size == 1 { 2 } else { 4 },
             operators: if size == 1 { 1 } else { 3 },
-            lengths: vec![2, 4, 8, 16],
+            lengths: lengths(random),
             scalar: true,
             endless: random.once_in(3),
         }
@@ -45,6 +48,16 @@ impl Wishes {
             endless: random.once_in(8),
             ..Wishes::any(random)
         }
+    }
+}
+
+/// The lengths of one program: mostly two, so that its blocks meet each other, at times all.
+fn lengths(random: &mut Random) -> Vec<usize> {
+    match random.below(4) {
+        0 => BLOCK_LENGTHS.to_vec(),
+        _ => (0..2)
+            .map(|_| *random.pick(&[2, 4, 4, 8, 16, 16, 32, 64]))
+            .collect(),
     }
 }
 
@@ -481,7 +494,8 @@ impl Writer<'_, '_> {
         let names = self.open.iter().filter(fits);
         let mut leaves: Vec<String> = names.map(|variable| variable.name.clone()).collect();
         if kind == Kind::Bool && length == context {
-            leaves.push("current_mask".into());
+            let times = if context > 1 { 2 } else { 1 };
+            leaves.extend(vec!["current_mask".into(); times]);
         }
         if length == 1 {
             leaves.push(self.constant(kind));

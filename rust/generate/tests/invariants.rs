@@ -63,7 +63,7 @@ fn check_rows(text: &[u8]) -> Vec<Row> {
     }
     assert_eq!(listed.answer.code, Code::Ended as u32);
     assert_eq!(listed.answer.need, end);
-    assert!(end <= 4096 && listed.rows.len() <= 64);
+    assert!(end <= 16_384 && listed.rows.len() <= 64);
     assert_eq!(listed.answer.steps as usize, listed.rows.len());
     listed.rows
 }

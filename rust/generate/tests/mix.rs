@@ -1,7 +1,7 @@
 //! The generators give a healthy mix: every code occurs, and each sort meets its limit.
 
-use generate::{case, mixed, Random, Sort};
-use oracle::run;
+use generate::{case, mixed, pieces, Case, Piece, Random, Sort, BLOCK_LENGTHS};
+use oracle::{judge, run, variables, Program, Row, Watched};
 
 /// How often each code occurs over these cases of one sort.
 fn codes(sort: Sort, cases: u64) -> [usize; 14] {
@@ -78,7 +78,7 @@ fn every_way_and_every_token_occurs() {
     }
     for token in
         "int bool block if else while scalar current_mask true false ; { } ( ) [ ] = == != \
-        < > <= >= + - * & | ^ ~ ! 1 2 4 8 16"
+        < > <= >= + - * & | ^ ~ ! 1 2 4 8 16 32 64"
             .split_whitespace()
     {
         let found = text
@@ -86,6 +86,162 @@ fn every_way_and_every_token_occurs() {
             .filter(|at| *at == token.as_bytes());
         assert!(found.count() >= 20, "{token}");
     }
+}
+
+/// Whether an accepted text has a block of more than 16 lanes.
+fn is_long(text: &[u8]) -> bool {
+    variables(text).rows.iter().any(|row| row.length > 16)
+}
+
+#[test]
+fn a_third_of_the_accepted_texts_has_long_blocks() {
+    let mut counts = [[0; 2]; Sort::ALL.len()];
+    for index in 0..6000 {
+        let (sort, case) = mixed(7, index);
+        if judge(&case.text).code == 0 {
+            let row = Sort::ALL.iter().position(|(known, _)| *known == sort);
+            counts[row.unwrap()][usize::from(is_long(&case.text))] += 1;
+        }
+    }
+    println!("{:>14} accepted   long", "");
+    for ((_, name), [short, long]) in Sort::ALL.iter().zip(&counts) {
+        println!("{name:>14} {:>8} {long:>6}", short + long);
+    }
+    let sum = |which: usize| counts.iter().map(|row| row[which]).sum::<usize>();
+    let percent = 100 * sum(1) / (sum(0) + sum(1));
+    println!("{percent} %");
+    assert!((30..=40).contains(&percent), "{percent} %");
+}
+
+#[test]
+fn every_sort_has_long_blocks() {
+    for (sort, name) in Sort::ALL {
+        let texts = (0..400).map(|index| generate::text(sort, &mut Random::new(14, index)));
+        let long = texts.filter(|text| {
+            let read = pieces(text);
+            let read: Vec<_> = read.into_iter().filter(|piece| !piece.is_space()).collect();
+            let mut numbers = read.windows(2).filter(|two| two[0].bytes == b"[");
+            numbers.any(|two| two[1].bytes == b"32" || two[1].bytes == b"64")
+        });
+        let count = long.count();
+        assert!(count >= 10, "{name}: {count} texts");
+    }
+}
+
+#[test]
+fn every_length_is_declared_and_refused_ones_stand_beside_it() {
+    let mut lengths = std::collections::BTreeMap::new();
+    for index in 0..6000 {
+        let text = mixed(8, index).1.text;
+        for row in variables(&text).rows {
+            *lengths.entry(row.length as usize).or_insert(0) += 1;
+        }
+        let answer = judge(&text);
+        if answer.code == 7 {
+            let digits = text[answer.place as usize..].iter();
+            let digits = digits.take_while(|byte| byte.is_ascii_digit());
+            let number: String = digits.map(|byte| char::from(*byte)).collect();
+            *lengths.entry(number.parse().unwrap()).or_insert(0) += 1;
+        }
+    }
+    for length in [1, 31, 33, 63, 65, 128].iter().chain(&BLOCK_LENGTHS) {
+        let count = lengths.get(length).copied().unwrap_or(0);
+        assert!(count >= 5, "{length} occurs {count} times");
+    }
+}
+
+#[test]
+fn the_greatest_need_occurs() {
+    let needs = (0..400).map(|index| {
+        let text = generate::text(Sort::Declarations, &mut Random::new(12, index));
+        judge(&text).need
+    });
+    let most = needs.filter(|need| *need == 16_384).count();
+    assert!(most >= 5, "{most} texts");
+}
+
+/// The masks of the steps of a run, each with the place of its statement.
+fn watched(case: &Case) -> Vec<(usize, Watched)> {
+    let program = match Program::prepare(&case.text) {
+        Ok(program) => program,
+        Err(_) => return Vec::new(),
+    };
+    let steps = (0..case.budget.min(60)).map_while(|budget| {
+        let (answer, due) = program.run_watched(&mut case.memory.clone(), budget);
+        due.map(|mask| (answer.place as usize, mask))
+    });
+    steps.collect()
+}
+
+/// The pieces of a statement from this place to its `;`, or to the end of its condition.
+fn statement<'p>(read: &'p [Piece<'p>], place: usize) -> Vec<&'p [u8]> {
+    let from = read.iter().position(|piece| piece.start == place);
+    let words = read[from.unwrap()..].iter().map(|piece| piece.bytes);
+    let mut depth = 0;
+    let mut statement = Vec::new();
+    for word in words {
+        depth += i32::from(word == b"(") - i32::from(word == b")");
+        statement.push(word);
+        if word == b";" || depth == 0 && word == b")" {
+            break;
+        }
+    }
+    statement
+}
+
+/// Whether no variable of several lanes and no mask stands among these words.
+fn is_scalar(words: &[&[u8]], text: &[u8], rows: &[Row]) -> bool {
+    let blocks = rows.iter().filter(|row| row.length > 1);
+    let names: Vec<&[u8]> = blocks
+        .map(|row| pieces(&text[row.place as usize..])[0].bytes)
+        .collect();
+    let of_lanes = |word: &&&[u8]| **word == b"current_mask" || names.contains(word);
+    !words.iter().any(|word| of_lanes(&word))
+}
+
+#[test]
+fn masks_of_32_and_64_lanes_occur_in_every_way() {
+    let mut counts = [[0; 10]; 2];
+    for index in 0..8000 {
+        let case = mixed(13, index).1;
+        let rows = variables(&case.text).rows;
+        let read = pieces(&case.text);
+        let read: Vec<_> = read.into_iter().filter(|piece| !piece.is_space()).collect();
+        let steps = watched(&case);
+        for (at, (place, Watched { length, mask })) in steps.iter().enumerate() {
+            let row = match length {
+                32 => 0,
+                64 => 1,
+                _ => continue,
+            };
+            let last = mask >> (length - 1) & 1 == 1;
+            let words = statement(&read, *place);
+            let tests = words[0] == b"if" || words[0] == b"while";
+            let stores = !tests && words.contains(&&b"="[..]);
+            let scalar = is_scalar(&words[1..], &case.text, &rows);
+            let next = steps.get(at + 1);
+            let met = [
+                last,
+                !last,
+                mask.count_ones() == 1 && last,
+                mask.count_ones() as usize == *length,
+                tests && scalar,
+                tests && !scalar,
+                stores && words.contains(&&b"current_mask"[..]),
+                tests && words.contains(&&b"current_mask"[..]),
+                stores && is_scalar(&words[2..], &case.text, &rows),
+                next.map_or(false, |(_, next)| next.length == 1),
+            ];
+            for (count, met) in counts[row].iter_mut().zip(met) {
+                *count += usize::from(met);
+            }
+        }
+    }
+    println!("{counts:?}");
+    assert!(
+        counts.iter().flatten().all(|count| *count >= 10),
+        "{counts:?}"
+    );
 }
 
 #[test]

@@ -1,6 +1,7 @@
 //! Demand 3 on the oracle: one lane of a run is the run of that lane.
 
-use generate::{lane_bytes, memory_for, narrow, narrow_memory, well_typed_text, Random, Wishes};
+use generate::{lane_bytes, memory_for, narrow, narrow_memory, well_typed_text};
+use generate::{Random, Wishes, BLOCK_LENGTHS};
 use oracle::{run, variables};
 
 /// The budget of the full runs.
@@ -9,7 +10,7 @@ const BUDGET: u32 = 2000;
 /// A program with no `scalar` and one block length, its length, and a memory.
 fn program(index: u64) -> (Vec<u8>, usize, Vec<u8>) {
     let mut random = Random::new(31, index);
-    let length = *random.pick(&[2, 4, 8, 16]);
+    let length = *random.pick(&BLOCK_LENGTHS);
     let wishes = Wishes::one_length(length, &mut random);
     let text = well_typed_text(&wishes, &mut random);
     let mut memory = memory_for(&text, &mut random);
@@ -41,6 +42,7 @@ fn check_lane(text: &[u8], memory: &[u8], lane: usize, steps: u32, left: &[u8]) 
 #[test]
 fn one_lane_of_a_run_is_the_run_of_that_lane() {
     let mut checked = 0;
+    let mut long = 0;
     let mut fewer = 0;
     for index in 0..1500 {
         let (text, length, memory) = program(index);
@@ -53,12 +55,13 @@ fn one_lane_of_a_run_is_the_run_of_that_lane() {
             check_lane(&text, &memory, lane, answer.steps, &left);
         }
         checked += 1;
+        long += usize::from(length > 16);
         let mut single = narrow_memory(&text, &memory, 0, 0);
         fewer += usize::from(run(&narrow(&text), &mut single, BUDGET).steps < answer.steps);
     }
     assert!(
-        checked > 500 && fewer > 100,
-        "{checked} runs, {fewer} with fewer steps"
+        checked > 500 && long > 150 && fewer > 100,
+        "{checked} runs, {long} of long blocks, {fewer} with fewer steps"
     );
 }
 
@@ -106,6 +109,7 @@ fn scalar_must_be_left_out() {
 fn narrowing_keeps_every_place() {
     for (text, narrowed) in [
         ("int block[16] a;", "int block[1 ] a;"),
+        ("bool block[64] a;", "bool block[1 ] a;"),
         (
             "int block[8] a; bool block[1] b;",
             "int block[1] a; bool block[1] b;",

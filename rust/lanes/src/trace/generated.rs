@@ -8,7 +8,7 @@ use crate::steps::{Step, Steps, Subject};
 use crate::syntax::tokens;
 use crate::syntax::tree::{self, Shape, Statement};
 use crate::syntax::types::Action;
-use generate::{memory_for, well_typed_text, Random, Wishes};
+use generate::{memory_for, well_typed_text, Random, Wishes, BLOCK_LENGTHS};
 use std::ops::Range;
 use std::path::Path;
 
@@ -18,7 +18,7 @@ const STEPS: u32 = 60;
 /// A routine and a memory of the size it needs.
 fn routine(index: u64) -> (Routine, Vec<u8>) {
     let mut random = Random::new(77, index);
-    let length = *random.pick(&[2, 4, 8, 16]);
+    let length = *random.pick(&BLOCK_LENGTHS);
     let wishes = Wishes::one_length(length, &mut random);
     let text = match index % 2 {
         0 => well_typed_text(&wishes, &mut random),
