@@ -93,6 +93,10 @@ fn print(tally: &Tally, start: Instant) {
     let (cases, calls, images) = (tally.cases, tally.calls, tally.images);
     println!("no difference: {cases} cases, {calls} calls on each side, {seconds:.1} s");
     println!("  {images} images run by run_each");
+    println!(
+        "  {} texts accepted, {} of them with a block of more than 16 lanes",
+        tally.accepted, tally.long
+    );
     for (sort, count) in &tally.sorts {
         println!("  {sort:>12} {count:>9}");
     }

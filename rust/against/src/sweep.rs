@@ -26,6 +26,10 @@ pub struct Tally {
     pub sorts: BTreeMap<&'static str, u64>,
     /// How many runs, each with its case's own memory and budget, gave each code.
     pub codes: BTreeMap<u32, u64>,
+    /// How many texts were accepted.
+    pub accepted: u64,
+    /// How many of these have a block of more than 16 lanes.
+    pub long: u64,
 }
 
 impl Tally {
@@ -38,6 +42,11 @@ impl Tally {
         self.images += made.images;
         *self.sorts.entry(name.map_or("", |(_, n)| n)).or_default() += 1;
         *self.codes.entry(answer.code).or_default() += 1;
+        if let Ok(listed) = ruihmento::variables(&case.text) {
+            let long = listed.list.iter().any(|variable| variable.length > 16);
+            self.accepted += 1;
+            self.long += u64::from(long);
+        }
     }
 
     /// Adds what another thread met.
@@ -45,6 +54,8 @@ impl Tally {
         self.cases += other.cases;
         self.calls += other.calls;
         self.images += other.images;
+        self.accepted += other.accepted;
+        self.long += other.long;
         for (sort, count) in other.sorts {
             *self.sorts.entry(sort).or_default() += count;
         }

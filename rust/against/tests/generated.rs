@@ -43,6 +43,8 @@ fn archive_and_independent_implementation_agree() {
             assert!(count >= 50, "code {code} occurs {count} times");
         }
         assert!(images >= 100_000, "{images} images");
+        let percent = 100 * tally.long / tally.accepted;
+        assert!((30..=40).contains(&percent), "{percent} % have long blocks");
     }
     assert!(tally.codes.keys().all(|code| *code <= 13), "{tally:?}");
 }

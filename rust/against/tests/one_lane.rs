@@ -1,6 +1,6 @@
 //! Demand 3 on the archive: one lane of a run is the run of that lane.
 
-use generate::{memory_for, narrow, well_typed_text, Random, Wishes};
+use generate::{memory_for, narrow, well_typed_text, Random, Wishes, BLOCK_LENGTHS};
 use ruihmento::{run, variables, Variable, Variables};
 use std::ops::Range;
 
@@ -10,7 +10,7 @@ const BUDGET: u32 = 2000;
 /// A program with no `scalar` and one block length, its length, and a memory.
 fn program(index: u64) -> (Vec<u8>, usize, Vec<u8>) {
     let mut random = Random::new(47, index);
-    let length = *random.pick(&[2, 4, 8, 16]);
+    let length = *random.pick(&BLOCK_LENGTHS);
     let wishes = Wishes::one_length(length, &mut random);
     let text = well_typed_text(&wishes, &mut random);
     let mut memory = memory_for(&text, &mut random);
@@ -63,17 +63,18 @@ fn check_lanes(text: &[u8], length: usize, memory: &[u8], steps: u32, left: &[u8
 
 #[test]
 fn one_lane_of_a_run_is_the_run_of_that_lane() {
-    let (mut checked, mut fewer) = (0, 0);
+    let (mut checked, mut fewer) = ([0; BLOCK_LENGTHS.len()], 0);
     for index in 0..3000 {
         let (text, length, memory) = program(index);
         let mut left = memory.clone();
         let answer = run(&text, &mut left, BUDGET);
         if answer.is_ended() {
             fewer += check_lanes(&text, length, &memory, answer.steps, &left);
-            checked += 1;
+            let of_length = BLOCK_LENGTHS.iter().position(|known| *known == length);
+            checked[of_length.expect("it is one of the lengths")] += 1;
         }
     }
-    assert!(checked > 2000, "{checked} runs");
+    assert!(checked.iter().all(|runs| *runs > 300), "{checked:?} runs");
     assert!(fewer > 1000, "{fewer} lanes took fewer steps");
 }
 

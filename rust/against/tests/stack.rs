@@ -14,6 +14,9 @@ const MOST: usize = 256 * 1024;
 /// A little for a thread itself.
 const THREAD: usize = 16 * 1024;
 
+/// The most bytes of memory that a text can need.
+const MOST_NEED: usize = 16_384;
+
 /// A service, called on this text with slices that suffice; the long ones are not on the stack.
 type Called = fn(&[u8]) -> usize;
 
@@ -21,10 +24,11 @@ type Called = fn(&[u8]) -> usize;
 const SERVICES: [(&str, Called); 4] = [
     ("judge", |text| services::judge(text, &mut [0; 16]) as usize),
     ("run", |text| {
-        services::run(text, &mut vec![1; 4096], 5_000, &mut [0; 16]) as usize
+        services::run(text, &mut vec![1; MOST_NEED], 5_000, &mut [0; 16]) as usize
     }),
     ("run_each", |text| {
-        services::run_each(text, &mut vec![1; 9000], 4096, 5_000, &mut [0; 40])
+        let mut images = vec![1; 2 * MOST_NEED + 800];
+        services::run_each(text, &mut images, MOST_NEED, 5_000, &mut [0; 40])
     }),
     ("variables", |text| {
         services::variables(text, &mut vec![0; 1024], &mut [0; 16]) as usize
@@ -35,6 +39,12 @@ const SERVICES: [(&str, Called); 4] = [
 fn filled(start: &str, again: &str, end: &str) -> Vec<u8> {
     let room = 4096 - start.len() - end.len();
     format!("{start}{}{end}", again.repeat(room / again.len())).into_bytes()
+}
+
+/// As many values of so many lanes waiting for their operator as there can be.
+fn pending(lanes: usize) -> Vec<u8> {
+    let (open, close) = ("a|a^a&a+a*(".repeat(32), ")".repeat(32));
+    format!("int block[{lanes}] a; a = {open}a{close};").into_bytes()
 }
 
 /// Long and deep texts.
@@ -56,7 +66,26 @@ fn texts() -> Vec<Vec<u8>> {
         format!("int x = {}1{};", "1|2^3&4+5*(".repeat(32), ")".repeat(32)).into(),
         format!("{};", "while(true)".repeat(32)).into(),
         format!("bool block[16] m; {};", "while(m)".repeat(32)).into(),
+        format!("bool block[64] m; {};", "while(m)".repeat(32)).into(),
+        format!(
+            "bool block[64] m; {}m = !m;{}",
+            "if(m)".repeat(31),
+            "else;".repeat(31)
+        )
+        .into(),
+        filled("int block[64] a; a = a", "+a", ";"),
+        filled("bool block[64] a; a = a", "|a^a&a==1<2+3*4", ";"),
+        filled(
+            "int block[64] a; bool block[64] m;",
+            "if(m)a=a-1;else a=a+1;",
+            "",
+        ),
+        pending(64),
+        pending(32),
     ];
+    // Every variable of the greatest size, and written.
+    let declared = (0..64).map(|n| format!("int block[64] v{n}={n};"));
+    texts.push(declared.collect::<String>().into_bytes());
     let opening = [
         "(",
         "{",
@@ -77,6 +106,15 @@ fn texts() -> Vec<Vec<u8>> {
 fn all_texts() -> Vec<Vec<u8>> {
     let generated = (0..3000).map(|index| mixed(5, index).1.text);
     texts().into_iter().chain(generated).collect()
+}
+
+#[test]
+fn the_longest_blocks_are_accepted() {
+    let texts = texts().into_iter();
+    let accepted = texts.filter(|text| ruihmento::judge(text).is_accepted());
+    let needs: Vec<usize> = accepted.map(|text| ruihmento::judge(&text).need).collect();
+    assert_eq!(needs.iter().max(), Some(&MOST_NEED));
+    assert!(needs.iter().filter(|need| **need >= 64).count() >= 8);
 }
 
 #[test]

@@ -4,7 +4,7 @@
 mod pages;
 
 use against::{Archive, Call, Oracle, Plan, Service};
-use generate::{mixed, Random, Shape};
+use generate::{mixed, Random, Shape, BLOCK_LENGTHS};
 use pages::{Flush, Room, Watch, PAGE};
 
 /// The seed of the generated cases.
@@ -14,7 +14,7 @@ const SEED: u64 = 3;
 const CASES: usize = 2_000;
 
 /// A text with every sign, comments, and names and numbers of every length that matters.
-const EVERY_TOKEN: &str = "bool block[4] ok; int block[16] s = 2147483647; // a comment\n\
+const EVERY_TOKEN: &str = "bool block[64] ok; int block[16] s = 2147483647; // a comment\n\
     { int a_name_of_exactly_31_bytes_here = 0; bool b = !(true & false) | false ^ true; }\r\n\
     \tif (s <= 10 == (s >= ~7)) { s = -s * 3 + 2 - s; } else while (s < 9 != current_mask) ;\n\
     scalar { bool c = 1 > 2; } if (ok) ; else ; //";
@@ -82,7 +82,7 @@ fn a_text_that_ends_anywhere_is_not_read_further() {
         rooms.check_both(&text[..length], &Call::run_each(shape, &text[..length], 50));
         for service in [
             Service::Judge,
-            Service::Run(vec![7; 200], 50),
+            Service::Run(vec![7; 300], 50),
             Service::Variables(80),
         ] {
             for answer in [0, 15, 16, 17] {
@@ -93,37 +93,71 @@ fn a_text_that_ends_anywhere_is_not_read_further() {
     }
 }
 
-/// A text and a memory of a whole page each touch such pages on both sides at once.
+/// A text of a whole page and a memory of whole pages touch such pages on both sides at once.
 #[test]
 fn whole_pages_are_flush_on_both_sides() {
-    let mut text: String = (0..64).map(|n| format!("int block[16] v{n};")).collect();
-    text += &" ".repeat(PAGE - text.len());
-    let memory = vec![9; PAGE];
-    assert_eq!(ruihmento::judge(text.as_bytes()).need, memory.len());
-    let service = Service::Run(memory, 1_000);
     let mut watch = Watch::new();
-    watch.tries("a text and a memory of one page".into());
-    Rooms::new(1).check_both(
-        text.as_bytes(),
-        &Call {
-            service,
-            answer: 16,
-        },
-    );
+    for (lanes, pages) in [(16, 1), (32, 2), (64, 4)] {
+        let declared = (0..64).map(|n| format!("int block[{lanes}] v{n};"));
+        let mut text: String = declared.collect();
+        text += "v0 = v63 + 1; if (v0 < v1) v63 = v0; else v62 = v63;";
+        text += &" ".repeat(PAGE - text.len());
+        let memory: Vec<u8> = (0..pages * PAGE).map(|at| (at / 97) as u8).collect();
+        assert_eq!(ruihmento::judge(text.as_bytes()).need, memory.len());
+        let service = Service::Run(memory, 1_000);
+        watch.tries(format!("a text of one page and a memory of {pages}"));
+        let mut rooms = Rooms::new(1);
+        rooms.bytes = Room::new(pages);
+        rooms.check_both(
+            text.as_bytes(),
+            &Call {
+                service,
+                answer: 16,
+            },
+        );
+    }
+}
+
+/// Each length by itself, int and bool, with every lane loaded, tested and stored: a memory of
+/// just so many bytes, flush on either side.
+#[test]
+fn blocks_of_every_length_are_flush_on_either_side() {
+    let mut watch = Watch::new();
+    for lanes in BLOCK_LENGTHS {
+        let ints = format!("int block[{lanes}] a; if (a < 3) a = a + 1; else a = 0 - a;");
+        let bools = format!("bool block[{lanes}] b; if (b) b = !b; else b = current_mask;");
+        for (text, need) in [(ints, 4 * lanes), (bools, lanes)] {
+            watch.tries(format!("a memory of {need} bytes for {lanes} lanes"));
+            for seed in 0..20 {
+                let memory = generate::memory_for(text.as_bytes(), &mut Random::new(SEED, seed));
+                let memory = memory.into_iter().chain([0; 300]).take(need).collect();
+                let call = Call {
+                    service: Service::Run(memory, 100),
+                    answer: 16,
+                };
+                Rooms::new(1).check_both(text.as_bytes(), &call);
+            }
+        }
+    }
 }
 
 /// Images that fill their pages touch such pages on both sides at once, and so do the answers.
 #[test]
 fn images_and_answers_may_fill_their_pages() {
-    let text = "int block[16] a; int block[16] b = 3; if (a < b) a = a + b; else b = a;";
-    let size = ruihmento::judge(text.as_bytes()).need;
-    assert_eq!(PAGE % size, 0);
     let mut watch = Watch::new();
-    watch.tries("images of whole pages".into());
-    let shape = Shape::whole(PAGE / size * 8, SEED);
-    let call = Call::run_each(shape, text.as_bytes(), 1_000);
-    assert_eq!((call.bytes_before().len(), call.answer), (8 * PAGE, PAGE));
-    Rooms::new(1).check_both(text.as_bytes(), &call);
+    for (lanes, pages) in [(16, 8), (64, 32)] {
+        let text = format!(
+            "int block[{lanes}] a; int block[{lanes}] b = 3; if (a < b) a = a + b; else b = a;"
+        );
+        let size = ruihmento::judge(text.as_bytes()).need;
+        assert_eq!(PAGE % size, 0);
+        watch.tries(format!("images of {lanes} lanes that fill whole pages"));
+        let shape = Shape::whole(PAGE / size * pages, SEED);
+        let call = Call::run_each(shape, text.as_bytes(), 1_000);
+        let whole = (pages * PAGE, PAGE);
+        assert_eq!((call.bytes_before().len(), call.answer), whole);
+        Rooms::new(1).check_both(text.as_bytes(), &call);
+    }
 }
 
 #[test]
