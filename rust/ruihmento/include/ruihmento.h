@@ -31,7 +31,7 @@
  *    4     nesting above 32                                  token
  *    5     unknown name                                      name
  *    6     name already open                                 name
- *    7     block length not 1, 2, 4, 8 or 16                 that number
+ *    7     block length not 1, 2, 4, 8, 16, 32 or 64         that number
  *    8     wrong kind                                        operator, =, if or while
  *    9     wrong length                                      operator, = or name
  *   10     length-1 target where the context is longer       =
@@ -40,7 +40,7 @@
  *   13     budget spent with a step still due                first token of its statement
  *
  * A place is a byte offset in the text. Need is how many bytes of memory the
- * text needs, at most 4,096, and 0 with codes 1 to 11. Steps is how many
+ * text needs, at most 16,384, and 0 with codes 1 to 11. Steps is how many
  * steps were taken.
  */
 #ifndef RUIHMENTO_H

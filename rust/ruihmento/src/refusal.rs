@@ -10,7 +10,7 @@ use std::fmt;
 ///
 /// ```
 /// let refusal = ruihmento::judge(b"int block[3] v;").refusal().unwrap();
-/// assert_eq!(refusal.to_string(), "a block has 1, 2, 4, 8 or 16 lanes");
+/// assert_eq!(refusal.to_string(), "a block has 1, 2, 4, 8, 16, 32 or 64 lanes");
 /// ```
 #[derive(Clone, Copy, Debug, PartialEq, Eq, Hash)]
 #[non_exhaustive]
@@ -120,7 +120,7 @@ impl Refusal {
             Refusal::TooDeep => "this token opens the 33rd level of nesting; the limit is 32",
             Refusal::UnknownName => "no variable of this name is open here",
             Refusal::AlreadyOpen => "a variable of this name is already open here",
-            Refusal::LengthNotListed => "a block has 1, 2, 4, 8 or 16 lanes",
+            Refusal::LengthNotListed => "a block has 1, 2, 4, 8, 16, 32 or 64 lanes",
             Refusal::WrongKind => {
                 "the kind is wrong: an int stands where a bool is needed, or a bool where an int \
                  is needed"

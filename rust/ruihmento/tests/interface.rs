@@ -101,11 +101,13 @@ fn variables_are_listed_in_text_order() {
 #[test]
 fn sixty_four_variables_are_all_listed() {
     let text: String = (0..64)
-        .map(|number| format!("int block[16] v{number};"))
+        .map(|number| format!("int block[64] v{number};"))
         .collect();
     let listed = variables(text.as_bytes()).unwrap();
-    assert_eq!((listed.list.len(), listed.need), (64, 4096));
-    assert_eq!(listed.list[63].name, "v63");
+    assert_eq!((listed.list.len(), listed.need), (64, 16_384));
+    let last = listed.list[63];
+    assert_eq!((last.name, last.length), ("v63", 64));
+    assert_eq!(last.range(), 16_128..16_384);
 }
 
 #[test]

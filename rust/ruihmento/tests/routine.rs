@@ -30,6 +30,31 @@ fn samples_by_name_make_the_memory_of_document_01() {
     assert!(ok.eq([true, false, true, false]));
 }
 
+/// The same over blocks of 64 lanes, as a card with 64 samples delivers them.
+#[test]
+fn samples_of_64_lanes_go_in_and_come_back_by_name() {
+    let routine = Routine::new(ROUTINE.replace("[4]", "[64]")).unwrap();
+    let mut memory = vec![0xaa; routine.need()];
+    assert_eq!(memory.len(), 768);
+    let ok: Vec<bool> = (0..64).map(|lane| lane % 3 == 0).collect();
+    let samples: Vec<i32> = (0..64).map(|lane| lane - 40).collect();
+    routine.set_bools(&mut memory, "ok", &ok).unwrap();
+    routine.set_ints(&mut memory, "s", &samples).unwrap();
+    assert_eq!(routine.run(&mut memory, 1_000).unwrap().steps, 8);
+    let expected = samples.iter().zip(&ok).map(|(s, ok)| match ok {
+        true if *s < 10 => s + 10,
+        true => s - 10,
+        false => *s,
+    });
+    assert!(routine.ints(&memory, "s").unwrap().eq(expected));
+    assert!(routine.bools(&memory, "ok").unwrap().eq(ok));
+    let misfit = routine
+        .set_ints(&mut memory, "s", &samples[..16])
+        .unwrap_err();
+    let words = "`s` has length 64, and the values have length 16";
+    assert_eq!(misfit.to_string(), words);
+}
+
 #[test]
 fn a_run_that_is_stopped_says_where_and_how_far() {
     let (routine, mut memory) = routine();
