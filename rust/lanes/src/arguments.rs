@@ -50,6 +50,8 @@ pub struct Results {
     pub out: Option<PathBuf>,
     /// Where the results go by name.
     pub csv_out: Option<PathBuf>,
+    /// The most characters of a line.
+    pub width: Option<u32>,
     /// How to show it.
     pub format: Format,
 }
@@ -129,6 +131,7 @@ const COMMANDS: [(&str, usize, usize, &str, &[&str]); 5] = [
             "--budget",
             "--out",
             "--csv-out",
+            "--width",
             "--json",
         ],
     ),
@@ -246,6 +249,7 @@ fn results(options: &Options, format: Format) -> Result<Results, Failure> {
     Ok(Results {
         out: file_of("--out", options)?,
         csv_out: options.path("--csv-out"),
+        width: options.number("--width")?,
         format,
     })
 }

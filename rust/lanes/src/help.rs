@@ -8,7 +8,7 @@ usage:
   lanes judge    FILE [--json]
   lanes template FILE [--all] [--rows]
   lanes run      FILE [MEMORY] [samples] [--budget N] [--out FILE]
-                 [--csv-out FILE] [--json]
+                 [--csv-out FILE] [--width N] [--json]
   lanes trace    FILE [MEMORY] [samples] [--budget N] [--from N] [--to N]
                  [--watch NAME] [--lane N] [--html FILE] [--width N] [--json]
   lanes compare  FILE BEFORE AFTER [--stride N] [--budget N] [--show N]
@@ -23,7 +23,9 @@ commands:
             variables that are declared without a value (--all: every one);
             with --rows a column a variable and a row a lane
   run       runs the routine and shows what it leaves: each variable with its
-            lanes, then all bytes in rows of 16; of many blocks a line each
+            lanes, then all bytes in rows of 16; of many blocks a line each.
+            More than 16 lanes stand on several lines, each behind the number
+            of its first lane
   trace     shows a line for each step: the statement and what it does in each
             lane. A dot is a lane that the mask leaves out; * is written, = is
             written with the value it had; a condition is yes or no. At a

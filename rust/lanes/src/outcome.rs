@@ -7,6 +7,7 @@ use crate::listing;
 use crate::routine::{Routine, Variable};
 use crate::status::{Failure, Status};
 use crate::syntax::tokens;
+use crate::terminal;
 use crate::values;
 use crate::verdict;
 use ruihmento::{Answer, Refusal};
@@ -29,6 +30,8 @@ pub struct Outcome<'a> {
     pub answer: Answer,
     /// The memory after a run.
     memory: Option<&'a [u8]>,
+    /// The most characters of a line that are asked for.
+    width: Option<u32>,
 }
 
 impl<'a> Outcome<'a> {
@@ -38,15 +41,17 @@ impl<'a> Outcome<'a> {
             routine,
             answer: routine.answer,
             memory: None,
+            width: None,
         }
     }
 
-    /// The outcome of a run that left this memory.
-    pub fn ran(routine: &'a Routine, answer: Answer, memory: &'a [u8]) -> Self {
+    /// The outcome of a run that left this memory, for lines of so many characters if asked for.
+    pub fn ran(routine: &'a Routine, answer: Answer, memory: &'a [u8], width: Option<u32>) -> Self {
         Outcome {
             routine,
             answer,
             memory: Some(memory),
+            width,
         }
     }
 
@@ -125,13 +130,22 @@ impl<'a> Outcome<'a> {
         )
     }
 
+    /// How many columns the lanes of long blocks have; the terminal is not asked where there are none.
+    fn width(&self) -> usize {
+        let mut variables = self.routine.variables.iter();
+        match variables.any(|variable| variable.length > values::COUNTED) {
+            true => terminal::width(self.width),
+            false => usize::MAX,
+        }
+    }
+
     /// Writes the variables and the memory for readers.
     fn write_values(&self, mut out: &mut dyn Write) -> io::Result<()> {
         if self.answer.is_accepted() && !self.routine.variables.is_empty() {
             let accepted_only = !self.answer.is_ended() && !self.has_run();
             if !accepted_only {
                 writeln!(out)?;
-                listing::write_variables(self.routine, self.left(), &mut out)?;
+                listing::write_variables(self.routine, self.left(), self.width(), &mut out)?;
             }
         }
         match self.left() {

@@ -38,7 +38,7 @@ fn run_one(
 ) -> Result<Status, Failure> {
     let mut memory = blocks::one(routine, start)?;
     let answer = ruihmento::run(&routine.source.text, &mut memory, start.budget);
-    let outcome = Outcome::ran(routine, answer, &memory);
+    let outcome = Outcome::ran(routine, answer, &memory, results.width);
     let csv_only = results.csv_out.as_deref().map_or(false, files::is_standard);
     let status = match csv_only {
         true => outcome.tell(results.format, to)?,

@@ -2,6 +2,9 @@
 
 use crate::routine::{Kind, Variable};
 
+/// The lanes that a reader can count; where there are more, lines of them have numbers.
+pub const COUNTED: usize = 16;
+
 /// A lane's value for readers: a bool as 1 or 0.
 pub fn shown(bytes: &[u8]) -> String {
     match bytes {

@@ -26,7 +26,7 @@ pub fn sentence(source: &Source, answer: Answer, memory: usize) -> String {
         Refusal::TooDeep => "This token opens the 33rd level of nesting; the limit is 32.",
         Refusal::UnknownName => "No variable of this name is open here.",
         Refusal::AlreadyOpen => "A variable of this name is already open here.",
-        Refusal::LengthNotListed => "A block has 1, 2, 4, 8 or 16 lanes.",
+        Refusal::LengthNotListed => "A block has 1, 2, 4, 8, 16, 32 or 64 lanes.",
         Refusal::WrongKind => "The kind is wrong here.",
         Refusal::WrongLength => "The number of lanes is wrong here.",
         Refusal::LengthOneTarget => {

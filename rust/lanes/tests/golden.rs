@@ -165,6 +165,49 @@ fn traces_with_more_beside_them() {
     check("trace scalar.txt --set m=1,0 --lane 1", 0, "scalar.trace");
 }
 
+/// A card's 64 samples: the lanes stand on lines that have their numbers.
+#[test]
+fn blocks_of_64_lanes() {
+    check("judge card.txt", 0, "card.judge");
+    check("template card.txt", 0, "card.template");
+    for width in ["80", "120"] {
+        let within = format!("card.txt --csv card.csv --width {width}");
+        check(&format!("run {within}"), 0, &format!("card.run-{width}"));
+        check(
+            &format!("trace {within}"),
+            0,
+            &format!("card.trace-{width}"),
+        );
+    }
+    let run = "run card.txt --csv card.csv";
+    check(&format!("{run} --csv-out -"), 0, "card.run.csv");
+    check(&format!("{run} --json"), 0, "card.run.json");
+    let trace = "trace card.txt --csv card.csv --from 5 --to 8";
+    let beside = format!("{trace} --watch late --watch s --lane 63 --width 120");
+    check(&beside, 0, "card.trace-watch");
+    check(&format!("{trace} --width 400"), 0, "card.trace-400");
+    let compare = "compare card.txt card-before.bin card-after.bin";
+    check(compare, 1, "card.compare");
+}
+
+/// However wide the values are, no line is wider than there is room for.
+#[test]
+fn lines_of_64_lanes_keep_the_width() {
+    for values in ["s=7", "s=-2147483640"] {
+        for width in ["70", "80", "100", "120", "200"] {
+            for command in ["run", "trace"] {
+                let words = [
+                    "card.txt", "--set", values, "--set", "ok=1", "--width", width,
+                ];
+                let output = lanes(&[&[command], &words[..]].concat());
+                let shown = String::from_utf8_lossy(&output.stdout).into_owned();
+                let most = shown.lines().map(|line| line.chars().count()).max();
+                assert!(most <= width.parse().ok(), "{most:?}: {shown}");
+            }
+        }
+    }
+}
+
 #[test]
 fn refusals_as_json() {
     check("judge lengths.txt --json", 1, "lengths.judge.json");

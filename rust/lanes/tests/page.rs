@@ -178,6 +178,57 @@ on true
     assert_eq!(report, expected);
 }
 
+/// A card's 64 samples, of which those from lane 48 on arrived.
+fn card(name: &str) -> String {
+    let ok = [&["0"; 48][..], &["1"; 16]].concat().join(",");
+    let samples: Vec<String> = (0..64).map(|lane| (lane - 50).to_string()).collect();
+    let (ok, samples) = (format!("ok={ok}"), format!("s={}", samples.join(",")));
+    page(name, &["card.txt", "--set", &ok, "--set", &samples])
+}
+
+#[test]
+fn sixty_four_lanes_stand_in_bands_of_sixteen() {
+    let script = format!(
+        "{TELL} slide(7); tell();
+        var heads = Array.from(document.querySelectorAll('#lanes thead tr'));
+        heads.forEach(function (head) {{ say(head.textContent); }});
+        var tables = Array.from(document.querySelectorAll('#lanes table'));
+        var widths = tables.map(function (table) {{ return table.offsetWidth; }});
+        say(widths.every(function (width) {{ return width === widths[0]; }}));"
+    );
+    let report = match report("bands", &card("bands.page"), &script) {
+        Some(report) => report,
+        None => return,
+    };
+    let lines: Vec<&str> = report.lines().collect();
+    assert_eq!(lines[..2], ["step 7 at 4:10", "marked: s = s - 10;"]);
+    let off = |text: &str| format!("{text} (off)");
+    let masked = vec![off(""); 16].join(", ");
+    assert_eq!(lines[2], format!("mask: {masked}"));
+    assert_eq!(lines[3], format!("ok: {}", vec![off("0"); 16].join(", ")));
+    let names = lines[2..15].iter().map(|line| line.split(':').next());
+    let names: Vec<&str> = names.map(Option::unwrap_or_default).collect();
+    let bands = ["mask", "ok", "s"].repeat(3);
+    assert_eq!(names, [&["mask", "ok", "s", "late"][..], &bands].concat());
+    // Lanes 48 to 59 were below ten and have taken the first branch.
+    let last = "mask: , , , , , , , , , , , , on, on, on, on";
+    assert_eq!(lines[12].replace(" (off)", ""), last);
+    let samples = (48..64).map(|lane| match lane - 50 {
+        sample if sample < 10 => off(&(sample + 10).to_string()),
+        sample => format!("{} (written changed)", sample - 10),
+    });
+    let samples: Vec<String> = samples.collect();
+    assert_eq!(lines[14], format!("s: {}", samples.join(", ")));
+    let heads = [0, 16, 32, 48].map(|first| {
+        let numbers: String = (first..first + 16)
+            .map(|lane: u32| lane.to_string())
+            .collect();
+        format!("lane{numbers}")
+    });
+    assert_eq!(lines[15..19], heads);
+    assert_eq!(lines[19], "true", "the bands are equally wide");
+}
+
 #[test]
 fn a_lane_that_is_written_with_its_own_value_is_marked() {
     let text = file("same.txt", b"int block[2] a; a = 7;");
@@ -222,6 +273,12 @@ fn a_routine_is_text_and_never_a_script() {
 #[test]
 fn the_page_fits_narrow_and_wide_windows() {
     let wide = page("window.page", &["wide.txt", "--set", "v=1000000007"]);
+    fits_windows("window", &wide);
+    fits_windows("window-64", &card("window-64.page"));
+}
+
+/// The page is never wider than its window.
+fn fits_windows(name: &str, page: &str) {
     // The page in frames of its own, as wide as a telephone, a tablet and a screen; they hold
     // the page without this script, so they make no frames themselves.
     let frames = "
@@ -237,7 +294,7 @@ var page = document.documentElement.outerHTML.split('<pre id=\"report\">')[0];
   };
   document.body.appendChild(frame);
 });";
-    if let Some(report) = report("window", &wide, frames) {
+    if let Some(report) = report(name, page, frames) {
         let mut lines: Vec<&str> = report.lines().collect();
         lines.sort_unstable();
         assert_eq!(lines, ["1400 fits", "320 fits", "768 fits"]);

@@ -23,13 +23,27 @@ fn on_terminal(columns: u32, arguments: &str) -> Option<String> {
 
 #[test]
 fn a_trace_is_as_wide_as_the_terminal() {
-    let trace = "trace routine.txt memory.bin --watch s --watch ok";
-    for columns in [64, 100] {
-        let shown = match on_terminal(columns, trace) {
+    as_wide_as_asked(
+        "trace routine.txt memory.bin --watch s --watch ok",
+        [64, 100],
+    );
+}
+
+#[test]
+fn sixty_four_lanes_are_as_wide_as_the_terminal() {
+    as_wide_as_asked("trace card.txt --csv card.csv", [80, 120]);
+    as_wide_as_asked("run card.txt --csv card.csv", [80, 120]);
+}
+
+/// On terminals of so many columns the program shows what it shows where that width is asked for,
+/// and no line is longer.
+fn as_wide_as_asked(arguments: &str, widths: [u32; 2]) {
+    for columns in widths {
+        let shown = match on_terminal(columns, arguments) {
             Some(shown) => shown.replace('\r', ""),
             None => return,
         };
-        let words: Vec<&str> = trace.split_whitespace().collect();
+        let words: Vec<&str> = arguments.split_whitespace().collect();
         let width = columns.to_string();
         let expected = command(&words).args(["--width", &width]).output();
         let expected = expected.expect("lanes starts").stdout;

@@ -10,7 +10,7 @@ use crate::source::Source;
 use std::ops::Range;
 
 /// The lengths of blocks.
-const LENGTHS: [usize; 5] = [1, 2, 4, 8, 16];
+const LENGTHS: [usize; 7] = [1, 2, 4, 8, 16, 32, 64];
 
 /// The most declarations.
 const MOST: usize = 64;

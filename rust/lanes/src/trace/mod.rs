@@ -31,7 +31,7 @@ pub fn trace(start: &Start, view: &View, to: &mut Streams) -> Result<Status, Fai
     let memory = blocks::one(&routine, start)?;
     if memory.len() < routine.need() {
         let answer = ruihmento::run(&routine.source.text, &mut memory.clone(), start.budget);
-        return Outcome::ran(&routine, answer, &memory).show(view.format, to);
+        return Outcome::ran(&routine, answer, &memory, view.width).show(view.format, to);
     }
     let steps = Steps::new(&routine, &memory);
     let alone = match view.lane {
@@ -52,7 +52,7 @@ pub fn trace(start: &Start, view: &View, to: &mut Streams) -> Result<Status, Fai
         trace.write_table(to)?;
     }
     let last = steps.after(start.budget)?;
-    Outcome::ran(&routine, last.answer, &last.memory).show(view.format, to)
+    Outcome::ran(&routine, last.answer, &last.memory, view.width).show(view.format, to)
 }
 
 /// A trace that is asked for.

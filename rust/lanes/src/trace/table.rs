@@ -25,6 +25,12 @@ const SIGNS: [&str; 3] = [
     "=  written with the value it had",
 ];
 
+/// What the numbers mean where many lanes stand on several lines.
+const NUMBERED: [&str; 2] = [
+    "[16]  the line begins with lane 16",
+    "+3  the third lane after its first",
+];
+
 /// What is shown beside each step of another run: by step.
 pub type Beside = (String, BTreeMap<u32, String>);
 
@@ -53,6 +59,8 @@ pub struct Table<'a> {
     beside: Option<Beside>,
     width: usize,
     rows: Vec<Row>,
+    /// Whether a part that is written had lines with numbers.
+    numbered: bool,
 }
 
 /// How wide the columns are, and how many lanes stand on a line.
@@ -63,11 +71,23 @@ struct Layout {
     /// The column of what has one lane; 0 where there is none.
     one: usize,
     lane: usize,
-    /// For each variable that is watched the width of its name and of a lane.
-    watched: Vec<(usize, usize)>,
+    /// The variables that are watched.
+    watched: Vec<Group>,
     beside: usize,
     lanes: usize,
     most: usize,
+    /// Whether each line of lanes has the number of its first.
+    numbered: bool,
+}
+
+/// The columns of a variable that is watched.
+struct Group {
+    /// How wide its name is.
+    name: usize,
+    /// How wide a lane is.
+    lane: usize,
+    /// How many lanes it has.
+    length: usize,
 }
 
 impl<'a> Table<'a> {
@@ -84,6 +104,7 @@ impl<'a> Table<'a> {
             beside,
             width,
             rows: Vec::new(),
+            numbered: false,
         }
     }
 
@@ -125,6 +146,7 @@ impl<'a> Table<'a> {
             return Ok(());
         }
         let layout = self.layout();
+        self.numbered |= layout.numbered;
         self.write_head(&layout, out)?;
         for row in &self.rows {
             row.write(&layout, out)?;
@@ -133,12 +155,22 @@ impl<'a> Table<'a> {
         Ok(())
     }
 
-    /// Writes what the signs in the cells mean, on one line where it fits.
+    /// Writes what the signs in the cells mean, and the numbers where there are any.
     pub fn write_signs(&self, out: &mut dyn Write) -> io::Result<()> {
-        let line = SIGNS.join("   ");
+        writeln!(out)?;
+        self.write_meanings(&SIGNS, out)?;
+        match self.numbered {
+            true => self.write_meanings(&NUMBERED, out),
+            false => Ok(()),
+        }
+    }
+
+    /// Writes what some signs mean, on one line where it fits.
+    fn write_meanings(&self, meanings: &[&str], out: &mut dyn Write) -> io::Result<()> {
+        let line = meanings.join("   ");
         match line.len() + 2 <= self.width {
-            true => writeln!(out, "\n  {line}"),
-            false => writeln!(out, "\n  {}", SIGNS.join("\n  ")),
+            true => writeln!(out, "  {line}"),
+            false => writeln!(out, "  {}", meanings.join("\n  ")),
         }
     }
 
@@ -147,8 +179,12 @@ impl<'a> Table<'a> {
         let widest = |cell: &dyn Fn(&Row) -> usize| self.rows.iter().map(cell).max().unwrap_or(0);
         let cells = |cells: &[String]| cells.iter().map(String::len).max().unwrap_or(0);
         let watched = self.watched.iter().enumerate().map(|(number, variable)| {
-            let name = self.routine.variables[*variable].name.len();
-            (name, widest(&|row| cells(&row.watched[number])).max(3))
+            let variable = &self.routine.variables[*variable];
+            Group {
+                name: variable.name.len(),
+                lane: widest(&|row| cells(&row.watched[number])).max(3),
+                length: variable.length,
+            }
         });
         let beside = self.beside.as_ref().map_or(0, |(head, _)| head.len());
         let longest = |row: &Row| row.watched.iter().map(Vec::len).max().unwrap_or(0);
@@ -164,6 +200,7 @@ impl<'a> Table<'a> {
             beside: widest(&|row| row.beside.len()).max(beside),
             lanes: most.max(1),
             most,
+            numbered: false,
         };
         let wanted = layout.statement.min(NARROWEST);
         while layout.lanes > 1 && layout.room(self.width) < wanted {
@@ -171,12 +208,19 @@ impl<'a> Table<'a> {
         }
         let room = layout.room(self.width);
         layout.statement = layout.statement.min(room.max(wanted));
+        layout.numbered = most > values::COUNTED && layout.lanes < most;
         layout
     }
 
     /// Writes the names of the columns.
     fn write_head(&self, layout: &Layout, out: &mut dyn Write) -> io::Result<()> {
-        let numbers = |length: usize| (0..length).map(|lane| format!("{lane} ")).collect();
+        let numbers = |length: usize| -> Vec<String> {
+            let behind = 0..length.min(layout.lanes);
+            match layout.numbered {
+                true => behind.map(|lane| format!("+{lane} ")).collect(),
+                false => (0..length).map(|lane| format!("{lane} ")).collect(),
+            }
+        };
         let groups = self.watched.iter().map(|variable| {
             let length = self.routine.variables[*variable].length;
             if length == 1 {
@@ -220,10 +264,19 @@ impl Layout {
         let lanes = self.lanes * (self.lane + 1);
         let watched = self.watched.iter();
         let watched: usize = watched
-            .map(|(name, lane)| 3 + name + self.lanes * (lane + 1))
+            .map(|group| 3 + group.name + self.cells(group) * (group.lane + 1))
             .sum();
         let taken = self.step + self.at + 4 + one + LANE.len() + lanes + watched + beside;
         width.saturating_sub(taken)
+    }
+
+    /// How many lanes of a variable that is watched have a column; beside many lanes it has no more
+    /// than its own.
+    fn cells(&self, group: &Group) -> usize {
+        match self.most > values::COUNTED {
+            true => self.lanes.min(group.length),
+            false => self.lanes,
+        }
     }
 }
 
@@ -233,12 +286,31 @@ impl Row {
         let lines = (layout.most + layout.lanes - 1) / layout.lanes;
         for line in 0..lines.max(1) {
             let lanes = line * layout.lanes..(line + 1) * layout.lanes;
+            if line > 0 && layout.numbered && !self.has(lanes.start) {
+                break;
+            }
             let text = self.line(line == 0, lanes, layout);
             if line == 0 || text.chars().any(|character| !" |".contains(character)) {
                 writeln!(out, "{}", text.trim_end())?;
             }
         }
         Ok(())
+    }
+
+    /// Whether something of several lanes has this one.
+    fn has(&self, lane: usize) -> bool {
+        let mut watched = self.watched.iter();
+        let in_watched = watched.any(|cells| cells.len() > lane.max(1));
+        in_watched || self.lanes.len() > lane
+    }
+
+    /// What stands before these lanes.
+    fn label(&self, lanes: &std::ops::Range<usize>, layout: &Layout) -> String {
+        match lanes.start {
+            0 if !self.label.is_empty() => self.label.clone(),
+            start if layout.numbered && self.has(start) => format!("[{start}]"),
+            _ => String::new(),
+        }
     }
 
     /// One line of the row, with these lanes; the first has all that is not a lane.
@@ -256,16 +328,18 @@ impl Row {
         if layout.one > 0 {
             text.push_str(&format!(" {:>1$}", once(&self.one), layout.one));
         }
-        text.push_str(&format!("{:1$}", once(&self.label), LANE.len()));
+        text.push_str(&format!("{:>1$}", self.label(&lanes, layout), LANE.len()));
         text.push_str(&group(&self.lanes, lanes.clone(), layout.lane));
         let watched = self.watched.iter().zip(&layout.watched).enumerate();
-        for (number, (cells, (name, lane))) in watched {
+        for (number, (cells, columns)) in watched {
             let shown = self
                 .names
                 .get(number)
                 .map_or(String::new(), |name| once(name));
+            let name = columns.name;
             text.push_str(&format!(" | {shown:name$}"));
-            text.push_str(&group(cells, lanes.clone(), *lane));
+            let lanes = lanes.start..lanes.start + layout.cells(columns);
+            text.push_str(&group(cells, lanes, columns.lane));
         }
         if layout.beside > 0 {
             text.push_str(&format!(" | {}", once(&self.beside)));
