@@ -124,23 +124,23 @@ fn judge_rows() {
 }
 
 /// What running takes.
-fn run_rows() {
-    for length in [4, 16] {
+fn run_rows(lanes: &[usize]) {
+    for length in lanes.iter().copied() {
         let memory = routine_memory(length);
         run("document 01's routine", &routine(length), &memory, length);
     }
-    for length in [4, 16] {
+    for length in lanes.iter().copied() {
         let text = ranges(length);
         let what = format!("a routine of {} bytes", text.len());
         run(&what, &text, &ranges_memory(length), length);
     }
-    for length in [4, 16] {
+    for length in lanes.iter().copied() {
         let start = declarations(length);
         let text = format!("{start} int n = 1000; while (0 < n) {{ {TEST} n = n - 1; }}");
         let what = "the routine's test in a loop of 1,000";
         run(what, &text, &routine_memory(length), length);
     }
-    for length in [4, 16] {
+    for length in lanes.iter().copied() {
         let text = countdown(length, 10_000);
         run(
             "a `while` of 10,000 turns",
@@ -152,11 +152,11 @@ fn run_rows() {
 }
 
 /// Prints the table.
-pub fn print() {
+pub fn print(lanes: &[usize]) {
     println!(
         "| what | unit | archive | independent | archive, us a call | archive's time / independent's |"
     );
     println!("|---|---|---|---|---|---|");
     judge_rows();
-    run_rows();
+    run_rows(lanes);
 }

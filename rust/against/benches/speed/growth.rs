@@ -36,19 +36,21 @@ impl Table {
 }
 
 /// By steps: the time of one.
-fn by_steps() {
-    let mut table = Table::new("steps of a `while`, 16 lanes", "ns a step");
+fn by_steps(lanes: usize) {
+    let what = format!("steps of a `while`, {lanes} lanes");
+    let mut table = Table::new(&what, "ns a step");
     for turns in [10, 100, 1_000, 10_000, 100_000] {
         let steps = 2 * turns + 2;
-        let (run, _) = running(countdown(16, turns).as_bytes(), &routine_memory(16));
+        let (run, _) = running(countdown(lanes, turns).as_bytes(), &routine_memory(lanes));
         table.row(steps, run.times(1e9 / steps as f64));
     }
 }
 
-/// By lanes: the time of a step on all of them.
-fn by_lanes() {
+/// By lanes, to so many: the time of a step on all of them.
+fn by_lanes(most: usize) {
     let mut table = Table::new("lanes of a `while` of 10,000 turns", "ns a step");
-    for lanes in [1, 2, 4, 8, 16] {
+    let lengths = [1, 2, 4, 8, 16, 32, 64];
+    for lanes in lengths.into_iter().filter(|lanes| *lanes <= most) {
         let (run, _) = running(countdown(lanes, 10_000).as_bytes(), &routine_memory(lanes));
         table.row(lanes, run.times(1e9 / 20_002.0));
     }
@@ -77,12 +79,10 @@ fn by_spaces() {
 }
 
 /// By images: the time of one.
-fn by_images() {
-    let mut table = Table::new(
-        "images of document 01's routine, 16 lanes, in one `run_each`",
-        "ns an image",
-    );
-    let kernel = Kernel::routine(16);
+fn by_images(lanes: usize) {
+    let what = format!("images of document 01's routine, {lanes} lanes, in one `run_each`");
+    let mut table = Table::new(&what, "ns an image");
+    let kernel = Kernel::routine(lanes);
     for images in [1, 10, 100, 1_000, 10_000] {
         let best = best(&mut [
             &mut each(&kernel, images),
@@ -97,10 +97,11 @@ fn by_images() {
 }
 
 /// Prints the tables.
-pub fn print() {
+pub fn print(lanes: &[usize]) {
+    let long = || lanes.iter().copied().filter(|lanes| *lanes >= 16);
     by_spaces();
-    by_steps();
-    by_lanes();
+    long().for_each(by_steps);
+    by_lanes(lanes.iter().copied().max().unwrap_or(1));
     by_bytes();
-    by_images();
+    long().for_each(by_images);
 }

@@ -2,24 +2,29 @@
 //! implementation and the same kernels in C and Lua.
 
 use crate::peer::{Peer, LUAS};
-use crate::texts::{counters, routine, routine_memory, sum};
+use crate::texts::{countdown, counters, routine, routine_memory, sum};
 use crate::timing::{best, Side};
 use oracle::Program;
 use ruihmento::{Routine, ANSWER_BYTES};
 
-/// How many images stand in the batches that every kernel has.
+/// How many images stand in the greater batches, where a call of them does not last too long.
 const BATCHES: [usize; 2] = [1_000, 10_000];
+
+/// How many steps on a lane the greatest batch takes.
+const MOST_WORK: f64 = 1e8;
 
 /// A kernel: a text with one image, and the two blocks of ints that it writes.
 pub struct Kernel {
     /// What it is called in the tables.
-    what: String,
-    /// What it is called by its peers.
-    name: &'static str,
+    what: &'static str,
+    /// What it is called by its peers; none where it has none.
+    name: Option<&'static str>,
     routine: Routine,
     image: Vec<u8>,
     written: [&'static str; 2],
     lanes: usize,
+    /// How many steps a run takes.
+    steps: u32,
     /// How many images stand in the batch that is compared with the other sides: so few that a call
     /// is short, and falls between the work of others, so many that judging does not show.
     compared: usize,
@@ -32,8 +37,9 @@ impl Kernel {
         let mut image = routine_memory(lanes);
         image.truncate(routine.need());
         Kernel {
-            what: format!("document 01's routine, {lanes} lanes"),
-            name: "routine",
+            what: "document 01's routine",
+            name: Some("routine"),
+            steps: steps(&routine, &image),
             routine,
             image,
             written: ["s", "t"],
@@ -45,15 +51,43 @@ impl Kernel {
     /// A `while` that the lanes leave one by one.
     pub fn sum(lanes: usize) -> Self {
         let routine = Routine::new(sum(lanes)).expect("it is accepted");
+        let image = counters(lanes);
         Kernel {
-            what: format!("a `while` that lanes leave one by one, {lanes} lanes"),
-            name: "while",
-            image: counters(lanes),
+            what: "a `while` that lanes leave one by one",
+            name: Some("while"),
+            steps: steps(&routine, &image),
+            image,
             routine,
             written: ["n", "a"],
             lanes,
-            compared: 100,
+            compared: if lanes > 16 { 10 } else { 100 },
         }
+    }
+
+    /// A `while` that all lanes leave at once.
+    pub fn countdown(lanes: usize) -> Self {
+        let routine = Routine::new(countdown(lanes, 1_000)).expect("it is accepted");
+        let image = vec![0xaa; routine.need()];
+        Kernel {
+            what: "a `while` of 1,000 turns",
+            name: None,
+            steps: steps(&routine, &image),
+            image,
+            routine,
+            written: ["n", "n"],
+            lanes,
+            compared: 10,
+        }
+    }
+
+    /// What it is called in the tables.
+    pub fn what(&self) -> &'static str {
+        self.what
+    }
+
+    /// How many steps a run takes, each on so many lanes.
+    pub fn work(&self) -> f64 {
+        f64::from(self.steps) * self.lanes as f64
     }
 
     /// What a run leaves in the lanes that it writes.
@@ -74,10 +108,17 @@ impl Kernel {
     }
 }
 
+/// How many steps a run over this image takes.
+fn steps(routine: &Routine, image: &[u8]) -> u32 {
+    let ended = routine.run(&mut image.to_vec(), u32::MAX);
+    ended.expect("the kernel comes to its end").steps
+}
+
 /// A side to be timed: one call is so many runs, each over an image that is copied anew; the
 /// copying alone is timed beside it.
-struct Timed<'a> {
-    name: String,
+pub struct Timed<'a> {
+    /// What it is called in the tables.
+    pub name: String,
     runs: usize,
     run: Box<dyn Side + 'a>,
     copy: Box<dyn Side + 'a>,
@@ -166,7 +207,10 @@ fn copy(images: &mut [u8], fresh: &[u8]) {
 
 /// The same kernel in C and in each Lua.
 fn peers(kernel: &Kernel) -> Vec<Timed<'static>> {
-    let (name, lanes) = (kernel.name, kernel.lanes);
+    let (name, lanes) = match kernel.name {
+        Some(name) => (name, kernel.lanes),
+        None => return Vec::new(),
+    };
     let mut found = vec![Timed::elsewhere("C", kernel, || Peer::in_c(name, lanes))];
     for (lua, names) in LUAS {
         let of = |name: &str| Peer::in_lua(lua, names, name, lanes);
@@ -179,50 +223,75 @@ fn peers(kernel: &Kernel) -> Vec<Timed<'static>> {
     found.into_iter().flatten().collect()
 }
 
-/// Every side, the two that the others are compared with first.
-fn sides(kernel: &Kernel) -> Vec<Timed<'_>> {
-    let batch = |count: usize| {
-        let name = format!("`run_each`, {count} images");
-        Timed::here(&name, kernel, count, each(kernel, count))
-    };
+/// The batch of `run_each` with so many images.
+fn batch(kernel: &Kernel, count: usize) -> Timed<'_> {
+    let name = format!("`run_each`, {count} images");
+    Timed::here(&name, kernel, count, each(kernel, count))
+}
+
+/// The independent implementation over as many images as are compared, and the same kernel
+/// elsewhere.
+fn others(kernel: &Kernel) -> Vec<Timed<'_>> {
     let count = kernel.compared;
-    let mut sides = vec![batch(count), Timed::here("`run`", kernel, 1, alone(kernel))];
-    sides.extend(
-        BATCHES
-            .into_iter()
-            .filter(|other| *other != count)
-            .map(batch),
-    );
     let name = format!("independent Rust, {count} images, judged once");
     let independent = independent(kernel, count);
-    sides.push(Timed::here(&name, kernel, count, independent));
-    sides.extend(peers(kernel));
+    let mut others = vec![Timed::here(&name, kernel, count, independent)];
+    others.extend(peers(kernel));
+    others
+}
+
+/// The batch that is compared with the other sides, and these, each by a name without numbers.
+pub fn compared(kernel: &Kernel) -> Vec<Timed<'_>> {
+    let mut sides = vec![batch(kernel, kernel.compared)];
+    sides.extend(others(kernel));
+    sides[0].name = "`run_each`".into();
+    sides[1].name = "independent Rust".into();
     sides
+}
+
+/// Every side, the two that the others are compared with first.
+fn sides(kernel: &Kernel) -> Vec<Timed<'_>> {
+    let count = kernel.compared;
+    let mut sides = vec![
+        batch(kernel, count),
+        Timed::here("`run`", kernel, 1, alone(kernel)),
+    ];
+    let more = BATCHES.into_iter().filter(|more| {
+        let steps = *more as f64 * kernel.work();
+        *more != count && steps <= MOST_WORK
+    });
+    sides.extend(more.map(|more| batch(kernel, more)));
+    sides.extend(others(kernel));
+    sides
+}
+
+/// The nanoseconds of a run and of copying its image, on each of these sides, timed in turn.
+pub fn nanoseconds(sides: &mut [Timed<'_>]) -> Vec<(f64, f64)> {
+    let mut timed: Vec<&mut dyn Side> = Vec::new();
+    for side in sides.iter_mut() {
+        timed.push(side.run.as_mut());
+        timed.push(side.copy.as_mut());
+    }
+    let best = best(&mut timed);
+    let pairs = best.chunks_exact(2).zip(sides);
+    let pairs = pairs.map(|(pair, side)| {
+        let runs = side.runs as f64;
+        (pair[0] * 1e9 / runs, pair[1] * 1e9 / runs)
+    });
+    pairs.collect()
 }
 
 /// Times the kernel on every side; prints a row for each.
 fn rows(kernel: &Kernel) {
     let mut sides = sides(kernel);
-    let mut timed: Vec<&mut dyn Side> = Vec::new();
-    for side in &mut sides {
-        timed.push(side.run.as_mut());
-        timed.push(side.copy.as_mut());
-    }
-    let best = best(&mut timed);
-    let nanoseconds: Vec<(f64, f64)> = best
-        .chunks_exact(2)
-        .zip(&sides)
-        .map(|(pair, side)| {
-            let runs = side.runs as f64;
-            (pair[0] * 1e9 / runs, pair[1] * 1e9 / runs)
-        })
-        .collect();
+    let nanoseconds = nanoseconds(&mut sides);
     let less_copy: Vec<f64> = nanoseconds.iter().map(|(run, copy)| run - copy).collect();
     for (at, side) in sides.iter().enumerate() {
         let (run, copy) = nanoseconds[at];
         println!(
-            "| {} | {} | {run:.1} | {copy:.1} | {:.2} | {:.2} |",
+            "| {}, {} lanes | {} | {run:.1} | {copy:.1} | {:.2} | {:.2} |",
             kernel.what,
+            kernel.lanes,
             side.name,
             less_copy[0] / less_copy[at],
             less_copy[1] / less_copy[at]
@@ -231,16 +300,16 @@ fn rows(kernel: &Kernel) {
 }
 
 /// Prints the table.
-pub fn print() {
+pub fn print(lanes: &[usize]) {
     println!(
         "| what | side | ns a run | of them copying | `run_each`'s time / its, less copying \
          | `run`'s time / its, less copying |"
     );
     println!("|---|---|---|---|---|---|");
-    for lanes in [4, 16] {
-        rows(&Kernel::routine(lanes));
+    for lanes in lanes {
+        rows(&Kernel::routine(*lanes));
     }
-    for lanes in [4, 16] {
-        rows(&Kernel::sum(lanes));
+    for lanes in lanes {
+        rows(&Kernel::sum(*lanes));
     }
 }
