@@ -11,7 +11,7 @@ use ruihmento::{Routine, ANSWER_BYTES};
 const BATCHES: [usize; 2] = [1_000, 10_000];
 
 /// How many steps on a lane the greatest batch takes.
-const MOST_WORK: f64 = 1e8;
+const MOST_WORK: f64 = 2e8;
 
 /// A kernel: a text with one image, and the two blocks of ints that it writes.
 pub struct Kernel {
