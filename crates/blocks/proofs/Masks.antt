@@ -15,7 +15,7 @@ use borrow.Author.Tests.{eq-eqb, ne-eqb}
 use Rattle.meaning.specs.Memory.{Mask, bit, truth}
 use Rattle.meaning.specs.Running.{some-lane}
 use Rattle.operators.proofs.Bytes.{truth-is}
-use Rattle.blocks.specs.Masks.{bits, number}
+use Rattle.blocks.specs.Masks.{Zero-or-one, bits, number}
 use Rattle.blocks.proofs.Lists.{map-at}
 
 pub length-bits : (n m : ℕ) → length (bits n m) ≡ n
@@ -187,15 +187,23 @@ shifted b i h = mod-small (bit b * 2 ^ i) (omega (arith, at-most b i, pow-mono {
     mod-small : (n : ℕ) → n < 2 ^ 32 → n % 2 ^ 32 ≡ n
     mod-small n l = omega arith
 
+-- A lane that is 0 or 1 is its truth.
+lane-bit : (a : ℕ) → a < 2 → a ≡ bit (not (eqb a 0))
+unfolding bit
+lane-bit zero h = refl
+lane-bit (suc zero) h = refl
+lane-bit (suc (suc a)) h = absurd (omega arith)
+
 -- After i lanes.
 pub record Counting (x : List ℕ) (r i : ℕ) : Type 0 where
   pub lanes : length x ≡ 16
+  pub bools : Zero-or-one x
   pub few : i ≤ 16
   pub is : r ≡ number (map truth (take i x))
 
-pub count-begun : (x : List ℕ) → length x ≡ 16 → Counting x 0 0
+pub count-begun : (x : List ℕ) → length x ≡ 16 → Zero-or-one x → Counting x 0 0
 unfolding number
-count-begun x h = record { lanes = h; few = omega arith; is = refl }
+count-begun x h b = record { lanes = h; bools = b; few = omega arith; is = refl }
 
 module _ {x : List ℕ} {r i : ℕ} (c : Counting x r i) where
   length-truths : length (map truth (take i x)) ≡ i
@@ -207,14 +215,20 @@ module _ {x : List ℕ} {r i : ℕ} (c : Counting x r i) where
   pub count-small : r < 2 ^ 32
   count-small = omega (arith, small, pow-mono {i = i} {j = 16} (c .few))
 
-  pub count-fits : i < 16 → (b : Bool) → r + bit b * 2 ^ i % 2 ^ 32 < 2 ^ 32
-  count-fits h b = rw (shifted b i h) (omega (arith, small, pow-mono {i = i} {j = 16} (c .few), at-most b i))
+  -- Lane i in its place.
+  placed-bit : i < 16 → getD x i 0 * 2 ^ i % 2 ^ 32 ≡ bit (not (eqb (getD x i 0) 0)) * 2 ^ i
+  placed-bit h =
+      ap (λ b. b * 2 ^ i % 2 ^ 32) (lane-bit (getD x i 0) (c .bools .low i (omega (arith, c .lanes)))) ∙ shifted (not (eqb (getD x i 0) 0)) i h
 
-  pub count-more : i < 16 → Counting x (r + bit (not (eqb (getD x i 0) 0)) * 2 ^ i % 2 ^ 32) (i + 1)
+  pub count-fits : i < 16 → r + getD x i 0 * 2 ^ i % 2 ^ 32 < 2 ^ 32
+  count-fits h = omega (arith, placed-bit h, small, pow-mono {i = i} {j = 16} (c .few), at-most (not (eqb (getD x i 0) 0)) i)
+
+  pub count-more : i < 16 → Counting x (r + getD x i 0 * 2 ^ i % 2 ^ 32) (i + 1)
   count-more h = record {
     lanes = c .lanes;
+    bools = c .bools;
     few = omega arith;
-    is = rw (shifted (not (eqb (getD x i 0) 0)) i h, add-one i, take-suc x i 0 (omega (arith, c .lanes)), map-append truth (take i x) (getD x i 0 ∷ []), number-next (map truth (take i x)) (truth (getD x i 0)), length-truths, truth-is, ← c .is);
+    is = ap (λ b. r + b) (placed-bit h) ∙ rw (add-one i, take-suc x i 0 (omega (arith, c .lanes)), map-append truth (take i x) (getD x i 0 ∷ []), number-next (map truth (take i x)) (truth (getD x i 0)), length-truths, truth-is, ← c .is);
   }
 
   pub counted : 16 ≤ i → r ≡ number (map truth x)

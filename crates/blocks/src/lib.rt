@@ -9,7 +9,7 @@ ghost use Rattle.meaning.specs.Memory.{truth, bit as lane-bit, whole, load as l
 ghost use Rattle.meaning.specs.Running.{word-binary, unary-of, binary-of};
 ghost use Rattle.layout.specs.Instructions.{chunk-lanes, mask-bits};
 ghost use Rattle.operators.specs.Operators.{int-size, Sum, Order, Join};
-ghost use Rattle.blocks.specs.Masks.{bits, number};
+ghost use Rattle.blocks.specs.Masks.{Zero-or-one, bits, number};
 ghost use Rattle.blocks.specs.Chunks.{placed, padded, in-chunk, four-ints};
 use meaning::Binary;
 use meaning::Kind;
@@ -312,14 +312,15 @@ pub fn store(kind: Kind, bytes: &mut [u8], mask: u64, x: [u32; 16], n: usize)
     }
 }
 
-// The mask of the lanes that are true.
+// The mask of the lanes that are true, of lanes that are 0 or 1: each stands in its bit as it is.
 pub fn truths(x: [u32; 16]) -> u64
+    requires { ⌜ Zero-or-one x ⌝ }
     ensures { λ r. ⌜ r ≡ number (map truth x) ⌝ }
 {
     let mut r = 0u32;
     let mut i = 0usize;
     while i < 16 {
-        r = r + (bit(x[i] != 0) << i);
+        r = r + (x[i] << i);
         i += 1;
     }
     r as u64

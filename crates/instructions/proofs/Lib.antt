@@ -1,5 +1,6 @@
 pub mod Tags
 pub mod Standing
+pub mod Holding
 pub mod Parts
 pub mod Leaving
 pub mod Ready

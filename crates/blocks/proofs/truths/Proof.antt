@@ -13,16 +13,13 @@ abbrev μ-loop : tie.MeasureT-loop
 μ-loop x r₀ i₀ r i = 16 - i
 
 loop-holds : tie.Need-loop-holds Inv-loop μ-loop
-loop-holds c = count-begun _ (search needs)
+loop-holds c = count-begun _ (search needs) (c .pre)
 
-mul-bit : tie.Need-mul-bit Inv-loop μ-loop
-mul-bit c = search needs
+mul-r : tie.Need-mul-r Inv-loop μ-loop
+mul-r c = search needs
 
-array-read-bit : tie.Need-array-read-bit Inv-loop μ-loop
-array-read-bit c = search needs
-
-bit-requires : tie.Need-bit-requires Inv-loop μ-loop
-bit-requires c κs = search needs
+array-read-r : tie.Need-array-read-r Inv-loop μ-loop
+array-read-r c = search needs
 
 cast-r : tie.Need-cast-r Inv-loop μ-loop
 cast-r c = search needs
@@ -31,7 +28,7 @@ shl-r : tie.Need-shl-r Inv-loop μ-loop
 shl-r c = omega arith
 
 add-r : tie.Need-add-r Inv-loop μ-loop
-add-r c = record { fits = rw (c .bit .ensures) (count-fits (c .before .before .loop .inv) (c .before .loop-test .taken) _) }
+add-r c = record { fits = count-fits (c .before .loop .inv) (c .loop-test .taken) }
 
 add-i : tie.Need-add-i Inv-loop μ-loop
 add-i c = search needs
@@ -40,7 +37,7 @@ loop-less : tie.Need-loop-less Inv-loop μ-loop
 loop-less c = search needs
 
 loop-again : tie.Need-loop-again Inv-loop μ-loop
-loop-again c = rw (c .bit .ensures) (count-more (c .before .before .loop .inv) (c .before .loop-test .taken))
+loop-again c = count-more (c .before .loop .inv) (c .loop-test .taken)
 
 cast-result : tie.Need-cast-result Inv-loop μ-loop
 cast-result c = omega (arith, count-small (c .before .loop .inv))
@@ -55,9 +52,8 @@ truths-spec =
     Inv-loop
     μ-loop
     loop-holds
-    mul-bit
-    array-read-bit
-    bit-requires
+    mul-r
+    array-read-r
     cast-r
     shl-r
     add-r
