@@ -1,16 +1,16 @@
--- How the loops over bytes follow the definitions: a run of a class, two lists that are the same, the value of digits.
+-- How the loops over bytes follow the definitions: a run of a class, the value of digits; and when two lists are the same.
 use mathlib.Core.Path.{_≡_, refl, ap, _∙_}
-use mathlib.Core.Bool.{Bool, true, false}
+use mathlib.Core.Bool.{Bool, true, false, false≢true}
 use mathlib.Core.List.{List, [], _∷_}
 use Prim.Native.Nat.{ℕ, zero, suc, _+_, _*_, _-_, _≤_, _<_}
 use native.Mathlib.Numerals.{add-one}
 use native.Mathlib.Omega.{arith}
-use lib.Dec.{leb}
+use lib.Dec.{eqb, leb}
 use lib.ListN.{length, getD, take, drop, drop-of-length-le}
 use lib.Seq.{drop-cons, length-take-le}
-use borrow.Author.Tests.{eq-eqb, ne-eqb, leb-true}
-use Rattle.meaning.specs.Tokens.{run-of, starts, decimal, digit}
-use Rattle.laws.proofs.Tests.{and-l, by-if}
+use borrow.Author.Tests.{eq-eqb, ne-eqb, eqb-true, leb-true}
+use Rattle.meaning.specs.Tokens.{run-of, starts, equal, decimal, digit}
+use Rattle.laws.proofs.Tests.{and-l, and-r, by-if}
 
 -- A run, i bytes on.
 module _ (p : ℕ → Bool) (s : List ℕ) (i : ℕ) where
@@ -62,19 +62,32 @@ module _ (p : ℕ → Bool) where
   unfolding run-of
   run-some c s hit = rw hit (omega arith)
 
--- Two lists, i bytes on.
-module _ (a b : List ℕ) (i : ℕ) (so-far : starts a b ≡ starts (drop i a) (drop i b)) where
-  pub starts-on : i < length a → i < length b → getD a i 0 ≡ getD b i 0 → starts a b ≡ starts (drop (i + 1) a) (drop (i + 1) b)
-  unfolding starts
-  starts-on lt lt′ e = so-far ∙ rw (add-one i, drop-cons a i 0 lt, drop-cons b i 0 lt′, eq-eqb (getD a i 0) (getD b i 0) e)
+-- Two lists are the same where the definition finds them equal.
+starts-same : (a b : List ℕ) → length a ≡ length b → starts a b ≡ true → a ≡ b
+unfolding starts
+starts-same [] [] e h = refl
+starts-same [] (d ∷ s) e h = absurd (omega arith)
+starts-same (c ∷ l) [] e h = absurd (false≢true h)
+starts-same (c ∷ l) (d ∷ s) e h = rw (eqb-true c d (and-l (eqb c d) (starts l s) h), starts-same l s (omega arith) (and-r (eqb c d) (starts l s) h))
 
-  pub starts-off : i < length a → i < length b → (getD a i 0 ≡ getD b i 0 → ⊥) → starts a b ≡ false
-  unfolding starts
-  starts-off lt lt′ e = so-far ∙ rw (drop-cons a i 0 lt, drop-cons b i 0 lt′, ne-eqb (getD a i 0) (getD b i 0) e)
+starts-itself : (a : List ℕ) → starts a a ≡ true
+unfolding starts
+starts-itself [] = refl
+starts-itself (c ∷ l) = rw (eq-eqb c c refl) (starts-itself l)
 
-  pub starts-end : length a ≤ i → starts a b ≡ true
-  unfolding starts
-  starts-end le = so-far ∙ rw (drop-of-length-le a le)
+pub equal-same : (a b : List ℕ) → equal a b ≡ true → a ≡ b
+unfolding equal
+equal-same a b h =
+    let t = eqb (length a) (length b) in
+    starts-same a b (eqb-true (length a) (length b) (and-l t (starts a b) h)) (and-r t (starts a b) h)
+
+pub same-equal : (a b : List ℕ) → a ≡ b → equal a b ≡ true
+unfolding equal
+same-equal a b e = rw (e, eq-eqb (length b) (length b) refl) (starts-itself b)
+
+pub lengths-differ : (a b : List ℕ) → (length a ≡ length b → ⊥) → equal a b ≡ false
+unfolding equal
+lengths-differ a b ne = rw (ne-eqb (length a) (length b) ne)
 
 -- Digits that are worth n, i bytes on.
 module _ (s : List ℕ) (n i : ℕ) (so-far : decimal 0 s ≡ decimal n (drop i s)) where

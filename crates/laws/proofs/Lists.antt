@@ -1,9 +1,16 @@
 -- What holds of each element of a list holds of each element of its parts, of two lists together, and of what is made of each.
 use Prim.Native.Nat.{ℕ, zero, suc, _<_}
+use mathlib.Core.Path.{_≡_, refl}
 use mathlib.Core.List.{List, [], _∷_, _++_, map, zipWith}
 use native.Mathlib.Omega.{arith}
 use lib.ListN.{length, getD, take, drop, replicate}
 use Rattle.laws.specs.Values.{All, no-more, and-one}
+
+-- An element of a list, whatever stands past its end.
+pub getD-inside : {A : Type 0} (l : List A) (i : ℕ) (d e : A) → i < length l → getD l i d ≡ getD l i e
+getD-inside [] i d e h = absurd (omega arith)
+getD-inside (x ∷ l) zero d e h = refl
+getD-inside (x ∷ l) (suc i) d e h = getD-inside l i d e (omega arith)
 
 module _ {A : Type 0} {P : A → Type 0} where
   pub all-at : {l : List A} → All P l → (i : ℕ) (d : A) → i < length l → P (getD l i d)

@@ -17,7 +17,7 @@ use Rattle.laws.proofs.Bytes.{run-within, run-length, run-some}
 use Rattle.laws.proofs.The.{the-end, the-number, the-name, number-not-end, name-not-end, number-not-name}
 
 -- What is found in a numbered list has a number of the list.
-lookup-from : (f : String → Bool) (l : List String) (n : ℕ) {k : ℕ} → lookup f (numbered n l) ≡ some k → n ≤ k
+pub lookup-from : (f : String → Bool) (l : List String) (n : ℕ) {k : ℕ} → lookup f (numbered n l) ≡ some k → n ≤ k
 unfolding numbered
 lookup-from f [] n {k} h = let z : _≡_ {A = ℕ} 0 1 = cc in absurd (omega arith)
 lookup-from f (r ∷ l) n {k} h =

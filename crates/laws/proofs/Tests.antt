@@ -1,5 +1,5 @@
 -- What a test says of its parts, and what holds of a choice.
-use mathlib.Core.Path.{_≡_, refl}
+use mathlib.Core.Path.{_≡_, refl, sym}
 use mathlib.Core.Bool.{Bool, true, false, _&&_, _||_, false≢true}
 use Rattle.meaning.specs.Codes.{if_then_else_}
 
@@ -31,3 +31,7 @@ by-if P false x y f g = g refl
 pub or-cases : {X : Type 0} (a b : Bool) → (a || b) ≡ true → (a ≡ true → X) → (b ≡ true → X) → X
 or-cases true b h f g = f refl
 or-cases false b h f g = g h
+
+pub or-r-false : (a b : Bool) → (a || b) ≡ false → b ≡ false
+or-r-false true b h = absurd (false≢true (sym h))
+or-r-false false b h = h

@@ -7,6 +7,17 @@ use Rattle.meaning.specs.Codes.{if_then_else_}
 use Rattle.meaning.specs.Tokens.{bytes}
 use Rattle.meaning.specs.Table.{Row, _over_for_gives_leaves_, _gets_at_, ints}
 
+-- R-4, "Reserved words in view": reserved words are no names; a part of one, one with a letter more, one in another case, and words of other
+-- languages are.
+unfoldable pub near-words : List Row
+near-words =
+    "int scalar;" gets 3 at 4
+    ∷ "int current_mask;" gets 3 at 4
+    ∷ "int blocks; int ints; int current_mas; int current_masks;" over replicate 16 5 for 1000 gives (0, 0, 16, 4) leaves replicate 16 5
+    ∷ "int If; int TRUE; int else_; bool _scalar;" over replicate 13 5 for 1000 gives (0, 0, 13, 4) leaves replicate 13 5
+    ∷ "int struct; int return;" over replicate 8 5 for 1000 gives (0, 0, 8, 2) leaves replicate 8 5
+    ∷ []
+
 -- R-9, "Longer blocks": 32 and 64 lanes and no more, and the two do not match; an address that is a multiple of a block's size; the last
 -- of 64 lanes under `if`; a `while` that one lane keeps going; flags and samples of 64 lanes; a vote over 64 lanes; the mask of 64 as a
 -- value, under a scalar condition; a memory that is a byte too short, and one that is longer.

@@ -1,6 +1,8 @@
 pub mod Numbers
 pub mod Signs
 pub mod Words
+pub mod Walking
+pub mod Spelling
 pub mod Written
 pub mod Rows
 pub mod SoFar

@@ -1,16 +1,22 @@
 -- Which sign some bytes start with depends on the first two of them alone, and on the second only where it is `=`.
-use mathlib.Core.Path.{_≡_, refl, sym, _∙_}
-use mathlib.Core.Bool.{Bool, true, false, not, _&&_, _||_, false≢true}
+use mathlib.Core.Path.{_≡_, refl, sym, ap, _∙_}
+use mathlib.Core.Bool.{Bool, true, false, not, _&&_, _||_, false≢true, and-true, and-false}
 use mathlib.Core.List.{List, [], _∷_}
-use Prim.Native.Nat.{ℕ, _<_}
+use mathlib.Core.Option.{Option, none, some, Option·none-ne-some}
+use Prim.Native.Nat.{ℕ, suc, _≤_, _<_}
 use Prim.Native.String.{String}
 use native.Mathlib.Omega.{arith}
 use lib.Dec.{eqb}
 use lib.ListN.{length, getD}
 use borrow.Author.Tests.{eq-eqb, ne-eqb, eqb-true, eqb-false, not-true}
-use Rattle.meaning.specs.Codes.{_among_}
-use Rattle.meaning.specs.Tokens.{bytes, signs, numbered, marks, starts, sign, bad}
-use Rattle.laws.proofs.Tests.{and-l, and-r}
+use Rattle.meaning.specs.Codes.{if_then_else_, option, lookup}
+use Rattle.meaning.specs.Tokens.{Piece, bad, token, bytes, signs, numbered, marks, starts, sign}
+use Rattle.tokens.specs.declared.Lexeme.the-variants.{Token, Bad}
+use Rattle.tokens.specs.Lexing.{blank, paired, sign-kind, lexeme}
+use Rattle.laws.proofs.The.{the-end, the-name}
+use Rattle.laws.proofs.Tests.{and-l, and-r, or-cases}
+use Rattle.laws.proofs.Pieces.{lookup-from}
+use Rattle.tokens.proofs.Walking.{every}
 
 -- One byte, or two of which the second is not 0.
 abbrev small : List ℕ → Bool
@@ -50,62 +56,194 @@ eqb-swap a b = go (eqb b a) refl
     go true e = eq-eqb a b (sym (eqb-true b a e))
     go false e = ne-eqb a b (λ q. eqb-false b a e (sym q))
 
-and-true : (a b : Bool) → (a && b) ≡ (a && (b && true))
-and-true false b = refl
-and-true true false = refl
-and-true true true = refl
-
 -- The same of the two bytes that begin a comment.
 pub slashes : (s : List ℕ) → 0 < length s → (eqb (getD s 0 0) 47 && eqb (getD s 1 0) 47) ≡ starts (bytes "//") s
 unfolding bytes starts
 slashes s lt =
-    rw (starts-small (47 ∷ 47 ∷ []) s refl lt, eqb-swap (getD s 0 0) 47, eqb-swap (getD s 1 0) 47) (and-true (eqb 47 (getD s 0 0)) (eqb 47 (getD s 1 0)))
+    rw (starts-small (47 ∷ 47 ∷ []) s refl lt, eqb-swap (getD s 0 0) 47, eqb-swap (getD s 1 0) 47, and-true (eqb 47 (getD s 1 0)))
 
--- No sign of two bytes: another second byte than `=`, or another first byte.
-module _ (b c : ℕ) where
-  pub second-other : (c ≡ 61 → ⊥) → sign marks (b ∷ []) ≡ sign marks (b ∷ c ∷ [])
-  unfolding sign marks numbered signs bytes starts
-  second-other ne = rw (ne-eqb 61 c (λ e. ne (sym e)))
+-- The number of the first sign.
+abbrev pub first-sign : ℕ
+first-sign = 48
 
-  pub first-other : (b ≡ 61 → ⊥) → (b ≡ 33 → ⊥) → (b ≡ 60 → ⊥) → (b ≡ 62 → ⊥) → sign marks (b ∷ []) ≡ sign marks (b ∷ c ∷ [])
-  unfolding sign marks numbered signs bytes starts
-  first-other w x y z = rw (ne-eqb 61 b (λ e. w (sym e)), ne-eqb 33 b (λ e. x (sym e)), ne-eqb 60 b (λ e. y (sym e)), ne-eqb 62 b (λ e. z (sym e)))
+-- A sign of one byte, and one of two bytes, which ends with `=`.
+abbrev equals : ℕ
+equals = 61
 
--- What the last arm of a match knows: b is none of the numbers of a list.
-abbrev pub NoneOf : ℕ → List ℕ → Type 0
-NoneOf b [] = Unit {0}
-NoneOf b (k ∷ l) = NoneOf b l × (b ≡ k → ⊥)
+abbrev short : List ℕ → Bool
+short [] = false
+short (a ∷ []) = true
+short (a ∷ d ∷ e) = false
 
-abbrev first-in : List ℕ → List ℕ → Bool
-first-in l [] = false
-first-in l (a ∷ e) = a among l
+abbrev long : List ℕ → Bool
+long [] = false
+long (a ∷ []) = false
+long (a ∷ d ∷ []) = eqb d equals
+long (a ∷ d ∷ e ∷ f) = false
 
-abbrev firsts-in : List ℕ → List (String × ℕ) → Bool
-firsts-in l [] = true
-firsts-in l ((r, k) ∷ m) = first-in l (bytes r) && firsts-in l m
+record Short (e : List ℕ) : Type 0 where
+  pub first : ℕ
+  pub is : e ≡ first ∷ []
+
+record Long (e : List ℕ) : Type 0 where
+  pub first : ℕ
+  pub is : e ≡ first ∷ equals ∷ []
+
+is-short : (e : List ℕ) → short e ≡ true → Short e
+is-short [] h = absurd (false≢true h)
+is-short (a ∷ []) h = record { first = a; is = refl }
+is-short (a ∷ d ∷ e) h = absurd (false≢true h)
+
+is-long : (e : List ℕ) → long e ≡ true → Long e
+is-long [] h = absurd (false≢true h)
+is-long (a ∷ []) h = absurd (false≢true h)
+is-long (a ∷ d ∷ []) h = record { first = a; is = rw (eqb-true d equals h) }
+is-long (a ∷ d ∷ e ∷ f) h = absurd (false≢true h)
+
+-- The signs of two bytes stand before those of one.
+abbrev ordered : List String → Bool
+ordered [] = true
+ordered (r ∷ l) = long (bytes r) && ordered l || every short (r ∷ l)
+
+signs-ordered : ordered signs ≡ true
+unfolding signs bytes
+signs-ordered = refl
+
+-- One sign against two bytes.
+short-starts : {e : List ℕ} (b c : ℕ) → Short e → starts e (b ∷ c ∷ []) ≡ paired e b blank
+unfolding starts paired
+short-starts b c s = rw (s .is)
+
+short-ends : {e : List ℕ} (b : ℕ) → Short e → paired e b equals ≡ false
+unfolding paired
+short-ends b s = rw (s .is) (and-false (eqb (s .first) b))
+
+long-starts : {e : List ℕ} (b c : ℕ) → Long e → starts e (b ∷ c ∷ []) ≡ paired e b c
+unfolding starts paired
+long-starts b c s = rw (s .is, and-true (eqb equals c))
+
+long-ends : {e : List ℕ} (b c : ℕ) → Long e → (c ≡ equals → ⊥) → paired e b c ≡ false
+unfolding paired
+long-ends b c s ne = rw (s .is, ne-eqb equals c (λ e. ne (sym e))) (and-false (eqb (s .first) b))
+
+-- The sign of a list that has the bytes b and c, the second of which may be a space.
+abbrev with : ℕ → ℕ → List (String × ℕ) → Option ℕ
+with b c = lookup (λ r. paired (bytes r) b c)
+
+-- What is found, as a piece of n bytes.
+abbrev piece-of : ℕ → Option ℕ → Piece
+piece-of n none = bad
+piece-of n (some k) = token k 0 [] n
 
 module _ (b : ℕ) where
-  other-byte : (l : List ℕ) (a : ℕ) → NoneOf b l → a among l ≡ true → eqb a b ≡ false
-  other-byte [] a n h = absurd (false≢true h)
-  other-byte (k ∷ l) a (n, ne) h = go (other-byte l a n) (eqb a k) refl h
+  shorts-end : (l : List String) (k : ℕ) → every short l ≡ true → with b equals (numbered k l) ≡ none
+  unfolding numbered
+  shorts-end [] k h = refl
+  shorts-end (r ∷ l) k h =
+      rw (short-ends b (is-short (bytes r) (and-l (short (bytes r)) (every short l) h))) (shorts-end l (suc k) (and-r (short (bytes r)) (every short l) h))
+
+  -- A sign of two bytes is found where there is one.
+  long-first : (l : List String) (k n : ℕ) → ordered l ≡ true → with b equals (numbered k l) ≡ some n
+      → sign (numbered k l) (b ∷ equals ∷ []) ≡ token n 0 [] 2
+  unfolding numbered sign
+  long-first [] k n h e = absurd (Option·none-ne-some n e)
+  long-first (r ∷ l) k n h e =
+      or-cases (long (bytes r) && ordered l) (every short (r ∷ l)) h
+      (λ o. let s = is-long (bytes r) (and-l (long (bytes r)) (ordered l) o) in
+      rw (long-starts b equals s, ap length (s .is))
+      (go (long-first l (suc k) n (and-r (long (bytes r)) (ordered l) o)) (paired (bytes r) b equals) e))
+      (λ o. absurd (Option·none-ne-some n (sym (shorts-end (r ∷ l) k o) ∙ e)))
     where
-      go : (a among l ≡ true → eqb a b ≡ false) → (g : Bool) → eqb a k ≡ g → (g || a among l) ≡ true → eqb a b ≡ false
-      go later true e _ = ne-eqb a b (λ q. ne (sym q ∙ eqb-true a k e))
-      go later false _ h′ = later h′
+      go : (with b equals (numbered (suc k) l) ≡ some n → sign (numbered (suc k) l) (b ∷ equals ∷ []) ≡ token n 0 [] 2) → (g : Bool)
+          → (if g then (λ _. some k) else λ _. with b equals (numbered (suc k) l)) ≡ some n
+          → (if g then (λ _. token k 0 [] 2) else λ _. sign (numbered (suc k) l) (b ∷ equals ∷ [])) ≡ token n 0 [] 2
+      go later true e′ = let is : k ≡ n = cc in rw is
+      go later false e′ = later e′
 
-  starts-other : (l e : List ℕ) → NoneOf b l → first-in l e ≡ true → starts e (b ∷ []) ≡ false
-  unfolding starts
-  starts-other l [] n h = absurd (false≢true h)
-  starts-other l (a ∷ e) n h = rw (other-byte l a n h)
+module _ (b c : ℕ) where
+  shorts-only : (l : List String) (k : ℕ) → every short l ≡ true → sign (numbered k l) (b ∷ c ∷ []) ≡ piece-of 1 (with b blank (numbered k l))
+  unfolding numbered sign
+  shorts-only [] k h = refl
+  shorts-only (r ∷ l) k h =
+      let s = is-short (bytes r) (and-l (short (bytes r)) (every short l) h) in
+      rw (short-starts b c s, ap length (s .is))
+      (go (shorts-only l (suc k) (and-r (short (bytes r)) (every short l) h)) (paired (bytes r) b blank))
+    where
+      go : sign (numbered (suc k) l) (b ∷ c ∷ []) ≡ piece-of 1 (with b blank (numbered (suc k) l)) → (g : Bool)
+          → (if g then (λ _. token k 0 [] 1) else λ _. sign (numbered (suc k) l) (b ∷ c ∷ []))
+          ≡ piece-of 1 (if g then (λ _. some k) else λ _. with b blank (numbered (suc k) l))
+      go later true = refl
+      go later false = later
 
-  sign-other : (l : List ℕ) (m : List (String × ℕ)) → NoneOf b l → firsts-in l m ≡ true → sign m (b ∷ []) ≡ bad
-  unfolding sign
-  sign-other l [] n h = refl
-  sign-other l ((r, k) ∷ m) n h =
-      rw (starts-other l (bytes r) n (and-l (first-in l (bytes r)) (firsts-in l m) h))
-      (sign-other l m n (and-r (first-in l (bytes r)) (firsts-in l m) h))
+  -- Where there is no sign of two bytes, one of one byte is.
+  short-next : (l : List String) (k : ℕ) → ordered l ≡ true → (c ≡ equals → with b equals (numbered k l) ≡ none)
+      → sign (numbered k l) (b ∷ c ∷ []) ≡ piece-of 1 (with b blank (numbered k l))
+  unfolding numbered sign
+  short-next [] k h none-long = refl
+  short-next (r ∷ l) k h none-long =
+      or-cases (long (bytes r) && ordered l) (every short (r ∷ l)) h
+      (λ o. let s = is-long (bytes r) (and-l (long (bytes r)) (ordered l) o) in
+      rw (long-starts b c s, no-pair s, long-ends b blank s (λ e. omega arith))
+      (short-next l (suc k) (and-r (long (bytes r)) (ordered l) o) (λ e. later (paired (bytes r) b equals) (none-long e))))
+      (shorts-only (r ∷ l) k)
+    where
+      later : (g : Bool) → (if g then (λ _. some k) else λ _. with b equals (numbered (suc k) l)) ≡ none → with b equals (numbered (suc k) l) ≡ none
+      later true e = absurd (Option·none-ne-some k (sym e))
+      later false e = e
 
-  -- No sign starts with b.
-  pub no-sign : NoneOf b (bytes "!~^|&*-+><=][)(}{;") → sign marks (b ∷ []) ≡ bad
-  unfolding marks numbered signs bytes
-  no-sign n = sign-other (bytes "!~^|&*-+><=][)(}{;") marks n refl
+      missed : (g : Bool) → (if g then (λ _. some k) else λ _. with b equals (numbered (suc k) l)) ≡ none → g ≡ false
+      missed true e = absurd (Option·none-ne-some k (sym e))
+      missed false e = refl
+
+      no-pair : Long (bytes r) → paired (bytes r) b c ≡ false
+      no-pair s = by (eqb c equals) refl
+        where
+          by : (g : Bool) → eqb c equals ≡ g → paired (bytes r) b c ≡ false
+          by true e = let is = eqb-true c equals e in rw is (missed (paired (bytes r) b equals) (none-long is))
+          by false e = long-ends b c s (eqb-false c equals e)
+
+-- What is found has the number of a sign.
+found-above : (b c n : ℕ) → with b c marks ≡ some n → first-sign ≤ n
+unfolding marks
+found-above b c n = lookup-from (λ r. paired (bytes r) b c) signs first-sign
+
+kind-found : (b c : ℕ) {k : ℕ} → k ≡ sign-kind b c → (k ≡ 0 → ⊥) → with b c marks ≡ some k
+unfolding sign-kind
+kind-found b c {k} is ne = go (with b c marks) (is ∙ rw the-end)
+  where
+    go : (o : Option ℕ) → k ≡ option 0 (λ n. n) o → o ≡ some k
+    go none e = absurd (ne e)
+    go (some n) e = rw e
+
+kind-none : (b c : ℕ) → 0 ≡ sign-kind b c → with b c marks ≡ none
+unfolding sign-kind
+kind-none b c is = go (with b c marks) refl (is ∙ rw the-end)
+  where
+    go : (o : Option ℕ) → with b c marks ≡ o → 0 ≡ option 0 (λ n. n) o → o ≡ none
+    go none h e = refl
+    go (some n) h e = let z : 0 ≡ n = e in absurd (omega (arith, found-above b c n h))
+
+sign-lexeme : (at k n : ℕ) → first-sign ≤ k → Token k 0 n ≡ lexeme at (token k 0 [] n)
+unfolding lexeme
+sign-lexeme at k n le = rw (the-name, ne-eqb k 2 (λ e. omega arith))
+
+module _ (b c at : ℕ) where
+  pub long-sign : {k : ℕ} → c ≡ equals → k ≡ sign-kind b equals → (k ≡ 0 → ⊥) → Token k 0 2 ≡ lexeme at (sign marks (b ∷ c ∷ []))
+  unfolding marks
+  long-sign {k} is kind ne =
+      let found = kind-found b equals kind ne in
+      sign-lexeme at k 2 (found-above b equals k found) ∙ rw (is, long-first b signs first-sign k signs-ordered found)
+
+  module _ (none-long : c ≡ equals → 0 ≡ sign-kind b equals) where
+    one-byte : sign marks (b ∷ c ∷ []) ≡ piece-of 1 (with b blank marks)
+    unfolding marks
+    one-byte = short-next b c signs first-sign signs-ordered (λ e. kind-none b equals (none-long e))
+
+    pub short-sign : {k : ℕ} → k ≡ sign-kind b blank → (k ≡ 0 → ⊥) → Token k 0 1 ≡ lexeme at (sign marks (b ∷ c ∷ []))
+    short-sign {k} kind ne =
+        let found = kind-found b blank kind ne in
+        sign-lexeme at k 1 (found-above b blank k found) ∙ rw (one-byte, found)
+
+    pub no-sign : 0 ≡ sign-kind b blank → Bad ≡ lexeme at (sign marks (b ∷ c ∷ []))
+    unfolding lexeme
+    no-sign kind = rw (one-byte, kind-none b blank kind)

@@ -1,12 +1,14 @@
 -- What the lexer promises: its answer and the buffer are exactly the definition's tokens, or its refusal.
-use Prim.Native.Nat.{ℕ, suc, _+_, _*_, _≤_, min}
+use Prim.Native.Nat.{ℕ, zero, suc, _+_, _*_, _≤_, min}
+use Prim.Native.String.{String}
 use mathlib.Core.Path.{_≡_}
-use mathlib.Core.Bool.{Bool}
-use mathlib.Core.List.{List}
+use mathlib.Core.Bool.{Bool, _&&_}
+use mathlib.Core.List.{List, [], _∷_, _++_}
 use lib.Dec.{eqb}
-use lib.ListN.{length}
+use lib.ListN.{length, getD}
 use Rattle.meaning.specs.Codes.{Out, ok, refused, if_then_else_, option, lookup, text-limit}
-use Rattle.meaning.specs.Tokens.{Token, Piece, over, bad, gap, token, the, bytes, equal, words, space, digit, letter-or-digit, in-line, lexed}
+use Rattle.meaning.specs.Tokens.{Token, Piece, over, bad, gap, token, the, bytes, equal, words, marks, space, digit, letter-or-digit, in-line, run-of, lexed}
+use Rattle.meaning.specs.Memory.{number-of}
 use Rattle.layout.specs.Sizes.{token-room}
 use Rattle.layout.specs.Tokens.{token-words, Holds}
 use Rattle.tokens.specs.declared.Class.{Class}
@@ -57,9 +59,55 @@ class-test Digit = digit
 class-test LetterOrDigit = letter-or-digit
 class-test InLine = in-line
 
+-- "letters, digits, `_`", and nothing else.
+abbrev pub Word : List ℕ → Type 0
+Word s = run-of letter-or-digit s ≡ length s
+
 -- What a word is: a reserved word, or a name.
 unfoldable pub word-kind : List ℕ → ℕ
 word-kind s = option (the "name") (λ k. k) (lookup (λ r. equal (bytes r) s) words)
+
+-- The bytes that a reserved word has in the list of them, and those that a sign has in its list.
+abbrev pub row-bytes : ℕ
+row-bytes = 12
+
+abbrev pub pair-bytes : ℕ
+pair-bytes = 2
+
+-- What rows are filled up with: a space.
+abbrev pub blank : ℕ
+blank = 32
+
+-- A text in a row of n bytes.
+abbrev pub filled : ℕ → List ℕ → List ℕ
+filled zero s = []
+filled (suc n) [] = blank ∷ filled n []
+filled (suc n) (b ∷ s) = b ∷ filled n s
+
+-- Texts in rows of n bytes, one after another.
+abbrev pub rows : ℕ → List String → List ℕ
+rows n [] = []
+rows n (r ∷ l) = filled n (bytes r) ++ rows n l
+
+-- Four letters of a word, from the i-th on, with spaces after its end.
+abbrev pub letters : List ℕ → ℕ → List ℕ
+letters s i = getD s i blank ∷ getD s (i + 1) blank ∷ getD s (i + 2) blank ∷ getD s (i + 3) blank ∷ []
+
+-- Are these, as numbers, the letters of a word, or of a row?
+unfoldable pub spelled : List ℕ → ℕ → ℕ → ℕ → Bool
+spelled s a b c = eqb (number-of (letters s 0)) a && eqb (number-of (letters s 4)) b && eqb (number-of (letters s 8)) c
+
+-- What the reserved word is that has these letters, and a name where none has them.
+unfoldable pub row-kind : ℕ → ℕ → ℕ → ℕ
+row-kind a b c = option (the "name") (λ k. k) (lookup (λ r. spelled (bytes r) a b c) words)
+
+-- Are these the two bytes of a sign, the second of which may be a space?
+unfoldable pub paired : List ℕ → ℕ → ℕ → Bool
+paired s b c = eqb (getD s 0 blank) b && eqb (getD s 1 blank) c
+
+-- What the sign is that has these two bytes, and the end where none has them.
+unfoldable pub sign-kind : ℕ → ℕ → ℕ
+sign-kind b c = option (the "end") (λ k. k) (lookup (λ r. paired (bytes r) b c) marks)
 
 -- A piece at place p as the code has it: beside a name stands its end.
 unfoldable pub lexeme : ℕ → Piece → Lexeme

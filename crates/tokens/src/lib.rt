@@ -1,4 +1,7 @@
-// Text to tokens, in one pass from left to right.
+// Text to tokens, in one pass from left to right. The reserved words and the signs are lists, in `word` and in `sign`.
+mod sign;
+mod word;
+
 use layout::Stage;
 use layout::limit;
 use layout::put_unit;
@@ -9,9 +12,9 @@ ghost use mathlib.Core.List.{[], _∷_};
 ghost use mathlib.Core.Bool.{true};
 ghost use Prim.Native.Nat.{ℕ, _+_, _<_, _≤_};
 ghost use lib.ListN.{length, getD};
-ghost use Rattle.meaning.specs.Codes.{if_then_else_, text-limit, number-limit};
-ghost use Rattle.meaning.specs.Tokens.{letter, digit, run-of, equal, decimal, word, digits, sign, marks, piece};
-ghost use Rattle.tokens.specs.Lexing.{class-test, word-kind, lexeme, Token-room, Lexes};
+ghost use Rattle.meaning.specs.Codes.{text-limit, number-limit};
+ghost use Rattle.meaning.specs.Tokens.{letter, digit, run-of, decimal, word, digits, piece};
+ghost use Rattle.tokens.specs.Lexing.{class-test, Word, lexeme, Token-room, Lexes};
 
 // The text's tokens and its end into the buffer: how many there are, the end among them, and their words; or the first refusal.
 pub fn lex(text: &[u8], tokens: &mut [u32]) -> Stage
@@ -68,7 +71,7 @@ fn next(s: &[u8], at: usize) -> Lexeme
         let len = run(s, Class::Space);
         return Lexeme::Gap(len);
     }
-    let c = byte_at(s, 1);
+    let c = byte_at(s, 1, 0);
     if (b == b'/') & (c == b'/') {
         let len = run(s, Class::InLine);
         return Lexeme::Gap(len);
@@ -81,22 +84,22 @@ fn next(s: &[u8], at: usize) -> Lexeme
         let len = run(s, Class::Digit);
         return number_of(&s[..len]);
     }
-    sign_of(b, c)
+    sign::longest(b, c)
 }
 
-// The byte at a place, and 0 past the end.
-fn byte_at(s: &[u8], i: usize) -> u8
-    ensures { λ r. ⌜ r ≡ getD (now (s .entry)) i 0 ⌝ }
+// The byte at a place, and another past the end.
+fn byte_at(s: &[u8], i: usize, other: u8) -> u8
+    ensures { λ r. ⌜ r ≡ getD (now (s .entry)) i other ⌝ }
 {
-    if i < s.len() { s[i] } else { 0 }
+    if i < s.len() { s[i] } else { other }
 }
 
 // A reserved word or a name, at place `at`; beside a name stands its end.
 fn word_of(s: &[u8], at: usize) -> Lexeme
-    requires { ⌜ at + length (now s) ≤ text-limit ⌝ }
+    requires { ⌜ Word (now s) × (at + length (now s) ≤ text-limit) ⌝ }
     ensures { λ r. ⌜ r ≡ lexeme at (word (now (s .entry))) ⌝ }
 {
-    let kind = word_kind(s);
+    let kind = word::kind(s);
     let len = s.len();
     if kind != token::NAME {
         return Lexeme::Token(kind, 0, len);
@@ -105,46 +108,6 @@ fn word_of(s: &[u8], at: usize) -> Lexeme
         return Lexeme::Bad;
     }
     Lexeme::Token(token::NAME, (at + len) as u32, len)
-}
-
-// What a word is: a reserved word, or a name.
-fn word_kind(word: &[u8]) -> u32
-    ensures { λ r. ⌜ r ≡ word-kind (now (word .entry)) ⌝ }
-{
-    let kind = kind_if(word, b"false", token::FALSE, token::NAME);
-    let kind = kind_if(word, b"true", token::TRUE, kind);
-    let kind = kind_if(word, b"current_mask", token::CURRENT_MASK, kind);
-    let kind = kind_if(word, b"scalar", token::SCALAR, kind);
-    let kind = kind_if(word, b"while", token::WHILE, kind);
-    let kind = kind_if(word, b"else", token::ELSE, kind);
-    let kind = kind_if(word, b"if", token::IF, kind);
-    let kind = kind_if(word, b"block", token::BLOCK, kind);
-    let kind = kind_if(word, b"bool", token::BOOL, kind);
-    kind_if(word, b"int", token::INT, kind)
-}
-
-// The kind of a reserved word, where a word is that one, and otherwise another kind.
-fn kind_if(word: &[u8], reserved: &[u8], kind: u32, other: u32) -> u32
-    ensures { λ r. ⌜ r ≡ (if equal (now (reserved .entry)) (now (word .entry)) then (λ _. kind) else λ _. other) ⌝ }
-{
-    if same(reserved, word) { kind } else { other }
-}
-
-// Are a and b the same bytes?
-fn same(a: &[u8], b: &[u8]) -> bool
-    ensures { λ r. ⌜ r ≡ equal (now (a .entry)) (now (b .entry)) ⌝ }
-{
-    if a.len() != b.len() {
-        return false;
-    }
-    let mut i = 0;
-    while i < a.len() {
-        if a[i] != b[i] {
-            return false;
-        }
-        i += 1;
-    }
-    true
 }
 
 // A number, from its digits.
@@ -174,49 +137,6 @@ fn with_digit(value: u32, b: u8) -> u64
     ensures { λ r. ⌜ r ≡ decimal value (b ∷ []) ⌝ }
 {
     10 * value as u64 + (b - b'0') as u64
-}
-
-// The longest sign that starts with b, where c follows.
-fn sign_of(b: u8, c: u8) -> Lexeme
-    ensures { λ r. ⌜ ((at : ℕ) → r ≡ lexeme at (sign marks (b ∷ c ∷ []))) ⌝ }
-{
-    if c == b'=' {
-        match b {
-            b'=' => return Lexeme::Token(token::EQUAL, 0, 2),
-            b'!' => return Lexeme::Token(token::UNEQUAL, 0, 2),
-            b'<' => return Lexeme::Token(token::AT_MOST, 0, 2),
-            b'>' => return Lexeme::Token(token::AT_LEAST, 0, 2),
-            _ => {}
-        }
-    }
-    short_sign(b)
-}
-
-// The sign that b is by itself.
-fn short_sign(b: u8) -> Lexeme
-    ensures { λ r. ⌜ ((at : ℕ) → r ≡ lexeme at (sign marks (b ∷ []))) ⌝ }
-{
-    match b {
-        b';' => Lexeme::Token(token::SEMICOLON, 0, 1),
-        b'{' => Lexeme::Token(token::OPEN_BRACE, 0, 1),
-        b'}' => Lexeme::Token(token::CLOSE_BRACE, 0, 1),
-        b'(' => Lexeme::Token(token::OPEN, 0, 1),
-        b')' => Lexeme::Token(token::CLOSE, 0, 1),
-        b'[' => Lexeme::Token(token::OPEN_BRACKET, 0, 1),
-        b']' => Lexeme::Token(token::CLOSE_BRACKET, 0, 1),
-        b'=' => Lexeme::Token(token::BECOMES, 0, 1),
-        b'<' => Lexeme::Token(token::BELOW, 0, 1),
-        b'>' => Lexeme::Token(token::ABOVE, 0, 1),
-        b'+' => Lexeme::Token(token::PLUS, 0, 1),
-        b'-' => Lexeme::Token(token::MINUS, 0, 1),
-        b'*' => Lexeme::Token(token::TIMES, 0, 1),
-        b'&' => Lexeme::Token(token::AND, 0, 1),
-        b'|' => Lexeme::Token(token::OR, 0, 1),
-        b'^' => Lexeme::Token(token::XOR, 0, 1),
-        b'~' => Lexeme::Token(token::INVERSE, 0, 1),
-        b'!' => Lexeme::Token(token::NOT, 0, 1),
-        _ => Lexeme::Bad,
-    }
 }
 
 // A class of bytes.

@@ -3,7 +3,7 @@ use mathlib.Core.Path.{sym, ap, _∙_}
 use native.Mathlib.Omega.{arith}
 use lib.ListN.{length-take}
 use borrow.Author.Needs.{needs}
-use Rattle.meaning.specs.Tokens.{digit}
+use Rattle.meaning.specs.Tokens.{digit, letter-or-digit}
 use Rattle.tokens.specs.Lexing.{lexeme}
 use Rattle.laws.proofs.Bytes.{run-length, run-take}
 use Rattle.tokens.proofs.Signs.{slashes, sign-of-two}
@@ -44,7 +44,7 @@ slice-aggregate-word-of : tie.Need-slice-aggregate-word-of
 slice-aggregate-word-of c = rw (c .before .run3 .ensures, run-length)
 
 word-of-requires : tie.Need-word-of-requires
-word-of-requires c κs = simp length-take (omega arith)
+word-of-requires c κs = (rw (c .before .run3 .ensures) (run-take letter-or-digit _), simp length-take (omega arith))
 
 returns-3 : tie.Need-returns-3
 returns-3 c =
@@ -78,7 +78,7 @@ returns-5 c =
     let no-gap = plain begin in
     let two = rw (sym (begin .before .byte-at .ensures)) at (sign-of-two (start begin .args .s .now) (no-gap .some-bytes)) in
     let sign = at-sign no-gap (sym (past .before .is-letter .ensures) ∙ past .if3 .left) (sym (test .before .is-digit .ensures) ∙ test .if4 .left) in
-    c .sign-of .ensures (start begin .args .at) ∙ ap (lexeme (start begin .args .at)) (two ∙ sym sign)
+    c .longest .ensures (start begin .args .at) ∙ ap (lexeme (start begin .args .at)) (two ∙ sym sign)
 
 pub next-spec : {M : Type 1} → statement M
 next-spec =
