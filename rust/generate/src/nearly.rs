@@ -1,6 +1,7 @@
 //! Well-typed programs with one change of kind, length, scope, target or order.
 
 use crate::random::Random;
+use crate::soup::reserved;
 
 /// Changes one thing in these tokens, if there is a place for it. Each way of changing gives
 /// none where it finds no place.
@@ -90,20 +91,8 @@ fn without_scalar(tokens: &mut Vec<String>, random: &mut Random) -> Option<()> {
 
 /// Whether a token is a name.
 fn is_name(token: &str) -> bool {
-    let reserved = [
-        "int",
-        "bool",
-        "block",
-        "if",
-        "else",
-        "while",
-        "scalar",
-        "current_mask",
-        "true",
-        "false",
-    ];
     let first = token.as_bytes()[0];
-    (first.is_ascii_alphabetic() || first == b'_') && !reserved.contains(&token)
+    (first.is_ascii_alphabetic() || first == b'_') && !reserved().contains(&token)
 }
 
 /// Another name of the text, or an unknown one, in the place of a name.

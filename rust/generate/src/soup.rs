@@ -3,6 +3,11 @@
 use crate::layout::{layout, Style};
 use crate::random::Random;
 
+/// The reserved words: the first of the tokens.
+pub fn reserved() -> &'static [&'static str] {
+    &TOKENS[..10]
+}
+
 /// Every reserved word and sign, with some names and numbers.
 const TOKENS: [&str; 45] = [
     "int",
