@@ -60,26 +60,6 @@ fn names_have_at_most_31_bytes() {
 }
 
 #[test]
-fn every_reserved_word_is_no_name() {
-    for word in [
-        "int",
-        "bool",
-        "block",
-        "if",
-        "else",
-        "while",
-        "scalar",
-        "current_mask",
-        "true",
-        "false",
-    ] {
-        assert_eq!(verdict(format!("int {word};")).0, 3, "{word}");
-        assert_eq!(verdict(format!("int {word}_;")), (0, 0), "{word}");
-        assert_eq!(verdict(format!("int {};", word.to_uppercase())), (0, 0));
-    }
-}
-
-#[test]
 fn numbers_stay_within_their_limits() {
     assert_eq!(verdict("int x = 0;"), (0, 0));
     assert_eq!(verdict("int x = 2147483647;"), (0, 0));
