@@ -9,14 +9,14 @@ use native.Mathlib.Omega.{arith}
 use lib.Dec.{eqb}
 use lib.ListN.{length, getD}
 use borrow.Author.Tests.{eq-eqb, ne-eqb, eqb-true, eqb-false, not-true}
-use Rattle.meaning.specs.Codes.{if_then_else_, option, lookup}
+use Rattle.meaning.specs.Codes.{if_then_else_, lookup}
 use Rattle.meaning.specs.Tokens.{Piece, bad, token, bytes, signs, numbered, marks, starts, sign}
 use Rattle.tokens.specs.declared.Lexeme.the-variants.{Token, Bad}
 use Rattle.tokens.specs.Lexing.{blank, paired, sign-kind, lexeme}
 use Rattle.laws.proofs.The.{the-end, the-name}
 use Rattle.laws.proofs.Tests.{and-l, and-r, or-cases}
 use Rattle.laws.proofs.Pieces.{lookup-from}
-use Rattle.tokens.proofs.Walking.{every}
+use Rattle.tokens.proofs.Walking.{told-some, told-none, every}
 
 -- One byte, or two of which the second is not 0.
 abbrev small : List ℕ → Bool
@@ -209,19 +209,11 @@ found-above b c n = lookup-from (λ r. paired (bytes r) b c) signs first-sign
 
 kind-found : (b c : ℕ) {k : ℕ} → k ≡ sign-kind b c → (k ≡ 0 → ⊥) → with b c marks ≡ some k
 unfolding sign-kind
-kind-found b c {k} is ne = go (with b c marks) (is ∙ rw the-end)
-  where
-    go : (o : Option ℕ) → k ≡ option 0 (λ n. n) o → o ≡ some k
-    go none e = absurd (ne e)
-    go (some n) e = rw e
+kind-found b c is = told-some (with b c marks) (is ∙ rw the-end)
 
 kind-none : (b c : ℕ) → 0 ≡ sign-kind b c → with b c marks ≡ none
 unfolding sign-kind
-kind-none b c is = go (with b c marks) refl (is ∙ rw the-end)
-  where
-    go : (o : Option ℕ) → with b c marks ≡ o → 0 ≡ option 0 (λ n. n) o → o ≡ none
-    go none h e = refl
-    go (some n) h e = let z : 0 ≡ n = e in absurd (omega (arith, found-above b c n h))
+kind-none b c is = told-none (with b c marks) (is ∙ rw the-end) (λ n h. let le = found-above b c n h in omega arith)
 
 sign-lexeme : (at k n : ℕ) → first-sign ≤ k → Token k 0 n ≡ lexeme at (token k 0 [] n)
 unfolding lexeme

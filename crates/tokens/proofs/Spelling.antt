@@ -3,19 +3,20 @@ use mathlib.Core.Path.{_≡_, refl, sym, _∙_}
 use mathlib.Core.Bool.{Bool, true, false, _&&_}
 use mathlib.Core.List.{List, [], _∷_, _++_}
 use Prim.Native.Nat.{ℕ, zero, suc, _+_, _≤_, _<_}
+use native.Mathlib.Nat.{suc-add, add-assoc}
 use native.Mathlib.Omega.{arith}
 use borrow.Author.Tests.{eq-eqb, eqb-true, leb-true}
 use lib.Dec.{eqb, leb}
-use lib.ListN.{length, getD, take, drop, List·getD-eq-default}
-use lib.Seq.{drop-cons}
+use lib.ListN.{length, getD, take, drop, length-drop, drop-of-length-le}
+use lib.Seq.{drop-nil, drop-drop}
 use Rattle.meaning.specs.Memory.{number-of}
 use Rattle.meaning.specs.Tokens.{digit, letter, letter-or-digit, equal}
 use Rattle.laws.specs.Values.{All, no-more, and-one, Bytes}
 use Rattle.laws.proofs.Tests.{and-l, and-r, or-cases}
-use Rattle.laws.proofs.Lists.{all-of}
+use Rattle.laws.proofs.Lists.{all-of, all-drop}
 use Rattle.laws.proofs.Bytes.{run-passes, equal-same, same-equal}
 use Rattle.tokens.specs.Lexing.{Word, row-bytes, blank, filled, letters, spelled}
-use Rattle.tokens.proofs.Walking.{filled-at}
+use Rattle.tokens.proofs.Walking.{length-filled, filled-parts}
 
 -- A letter is a byte, and no space.
 abbrev Letter : ℕ → Type 0
@@ -50,36 +51,19 @@ number-same (x ∷ l) (y ∷ l′) e (and-one lt a) (and-one lt′ b) h =
     let rest : number-of l ≡ number-of l′ = omega arith in
     rw (first, number-same l l′ (omega arith) a b rest)
 
-letter-byte : {s : List ℕ} → All Letter s → (i : ℕ) → getD s i blank < 256
-letter-byte no-more i = omega arith
-letter-byte (and-one l a) zero = l .1
-letter-byte (and-one l a) (suc i) = letter-byte a i
+filled-bytes : (n : ℕ) {s : List ℕ} → All Letter s → Bytes (filled n s)
+filled-bytes zero a = no-more
+filled-bytes (suc n) no-more = and-one {x = blank} (omega arith) (filled-bytes n no-more)
+filled-bytes (suc n) (and-one l a) = and-one (l .1) (filled-bytes n a)
 
 same-letters : {x s : List ℕ} → All Letter x → All Letter s → (i : ℕ) → eqb (number-of (letters x i)) (number-of (letters s i)) ≡ true
     → letters x i ≡ letters s i
 same-letters {x} {s} a b i h =
-    number-same (letters x i) (letters s i) refl (four a) (four b) (eqb-true (number-of (letters x i)) (number-of (letters s i)) h)
-  where
-    four : {l : List ℕ} → All Letter l → Bytes (letters l i)
-    four c = and-one (letter-byte c i) (and-one (letter-byte c (i + 1)) (and-one (letter-byte c (i + 2)) (and-one (letter-byte c (i + 3)) no-more)))
-
--- A row from its i-th byte on.
-filled-on : (n : ℕ) (s : List ℕ) (i : ℕ) → filled (suc n) (drop i s) ≡ getD s i blank ∷ filled n (drop (suc i) s)
-filled-on n [] zero = refl
-filled-on n [] (suc i) = refl
-filled-on n (b ∷ s) zero = refl
-filled-on n (b ∷ s) (suc i) = filled-on n s i
-
-filled-four : (n : ℕ) (s : List ℕ) (i : ℕ) → filled (suc (suc (suc (suc n)))) (drop i s) ≡ letters s i ++ filled n (drop (i + 4) s)
-filled-four n s i =
-    let second : i + 1 ≡ suc i = omega arith in
-    let third : i + 2 ≡ suc (suc i) = omega arith in
-    let fourth : i + 3 ≡ suc (suc (suc i)) = omega arith in
-    let rest : i + 4 ≡ suc (suc (suc (suc i))) = omega arith in
-    rw (second, third, fourth, rest, filled-on (suc (suc (suc n))) s i, filled-on (suc (suc n)) s (suc i), filled-on (suc n) s (suc (suc i)), filled-on n s (suc (suc (suc i))))
+    number-same (letters x i) (letters s i) (length-filled 4 (drop i x) ∙ sym (length-filled 4 (drop i s))) (filled-bytes 4 (all-drop i a)) (filled-bytes 4 (all-drop i b))
+    (eqb-true (number-of (letters x i)) (number-of (letters s i)) h)
 
 row-letters : (s : List ℕ) → filled row-bytes s ≡ letters s 0 ++ (letters s 4 ++ letters s 8)
-row-letters s = rw (filled-four 8 s 0, filled-four 4 s 4, filled-four 0 s 8)
+row-letters s = filled-parts 4 8 s ∙ rw (filled-parts 4 4 (drop 4 s), drop-drop 4 4 s)
 
 -- A word is known by its row.
 filled-same : (n : ℕ) {x s : List ℕ} → All Letter x → All Letter s → length x ≤ n → length s ≤ n → filled n x ≡ filled n s → x ≡ s
@@ -125,14 +109,23 @@ module _ (x s : List ℕ) (word-x : Word x) (word-s : Word s) (le : length x ≤
           other true e = sym (same-equal x s (alike e)) ∙ h
           other false e = refl
 
--- Four letters at once, where the word has them, and none past its end.
+-- Four letters at once, where the word has them; with spaces; and none past its end.
+filled-take : (n : ℕ) (s : List ℕ) → n ≤ length s → take n s ≡ filled n s
+filled-take zero s le = refl
+filled-take (suc n) [] le = absurd (omega arith)
+filled-take (suc n) (b ∷ s) le = rw (filled-take n s (omega arith))
+
 pub four-letters : (s : List ℕ) (i : ℕ) → i + 4 ≤ length s → take 4 (drop i s) ≡ letters s i
-four-letters s i le =
-    let second : i + 1 ≡ suc i = omega arith in
-    let third : i + 2 ≡ suc (suc i) = omega arith in
-    let fourth : i + 3 ≡ suc (suc (suc i)) = omega arith in
-    let one : (j : ℕ) → j < length s → drop j s ≡ getD s j blank ∷ drop (suc j) s = λ j lt. drop-cons s j blank lt in
-    rw (second, third, fourth, one i (omega arith), one (suc i) (omega arith), one (suc (suc i)) (omega arith), one (suc (suc (suc i))) (omega arith))
+four-letters s i le = filled-take 4 (drop i s) (let long = length-drop i s in omega arith)
+
+filled-on : (n : ℕ) (s : List ℕ) (i : ℕ) → filled (suc n) (drop i s) ≡ getD s i blank ∷ filled n (drop (i + 1) s)
+filled-on n [] zero = refl
+filled-on n [] (suc i) = rw (suc-add i 1)
+filled-on n (b ∷ s) zero = refl
+filled-on n (b ∷ s) (suc i) = rw (suc-add i 1) (filled-on n s i)
+
+pub each-letter : (s : List ℕ) (i : ℕ) → getD s i blank ∷ getD s (i + 1) blank ∷ getD s (i + 2) blank ∷ getD s (i + 3) blank ∷ [] ≡ letters s i
+each-letter s i = rw (filled-on 3 s i, filled-on 2 s (i + 1), add-assoc i 1 1, filled-on 1 s (i + 2), add-assoc i 2 1, filled-on 0 s (i + 3))
 
 -- Four spaces, as a number.
 abbrev pub spaces : ℕ
@@ -140,16 +133,21 @@ spaces = 538976288
 
 pub no-letters : (s : List ℕ) (i : ℕ) → length s ≤ i → number-of (letters s i) ≡ spaces
 unfolding number-of
-no-letters s i le =
-    let past : (n : ℕ) → length s ≤ n → getD s n blank ≡ blank = λ n le′. List·getD-eq-default s blank {n = n} le′ in
-    rw (past i le, past (i + 1) (omega arith), past (i + 2) (omega arith), past (i + 3) (omega arith))
+no-letters s i le = rw (drop-of-length-le s le)
 
 -- The letters of a row are its text's.
-row-part : (s : List ℕ) (i : ℕ) → i + 4 ≤ row-bytes → letters (filled row-bytes s) i ≡ letters s i
-row-part s i le =
-    let same : (n : ℕ) → n < row-bytes → getD (filled row-bytes s) n blank ≡ getD s n blank = λ n lt. filled-at row-bytes s n blank lt in
-    rw (same i (omega arith), same (i + 1) (omega arith), same (i + 2) (omega arith), same (i + 3) (omega arith))
+filled-again : (m n : ℕ) (s : List ℕ) → m ≤ n → filled m (filled n s) ≡ filled m s
+filled-again zero n s le = refl
+filled-again (suc m) zero s le = absurd (omega arith)
+filled-again (suc m) (suc n) [] le = rw (filled-again m n [] (omega arith))
+filled-again (suc m) (suc n) (b ∷ s) le = rw (filled-again m n s (omega arith))
+
+row-part : (i n : ℕ) (s : List ℕ) → i + 4 ≤ n → letters (filled n s) i ≡ letters s i
+row-part zero n s le = filled-again 4 n s (omega arith)
+row-part (suc i) zero s le = absurd (omega arith)
+row-part (suc i) (suc n) [] le = row-part i n [] (omega arith) ∙ rw (drop-nil {A = ℕ} i)
+row-part (suc i) (suc n) (b ∷ s) le = row-part i n s (omega arith)
 
 pub row-spelled : (s : List ℕ) (a b c : ℕ) → spelled (filled row-bytes s) a b c ≡ spelled s a b c
 unfolding spelled
-row-spelled s a b c = rw (row-part s 0 (omega arith), row-part s 4 (omega arith), row-part s 8 (omega arith))
+row-spelled s a b c = rw (row-part 0 row-bytes s (omega arith), row-part 4 row-bytes s (omega arith), row-part 8 row-bytes s (omega arith))

@@ -2,29 +2,45 @@
 -- that are left are numbered as the definition numbers them, so that what the walk finds is what the definition looks up.
 use mathlib.Core.Path.{_≡_, refl, sym, ap, _∙_}
 use mathlib.Core.Bool.{Bool, true, false, _&&_}
-use mathlib.Core.List.{List, [], _∷_}
+use mathlib.Core.List.{List, [], _∷_, _++_}
 use mathlib.Core.Option.{Option, none, some}
 use Prim.Native.Nat.{ℕ, zero, suc, _+_, _*_, _≤_, _<_}
 use Prim.Native.String.{String}
+use native.Mathlib.Nat.{zero-add, suc-add}
 use native.Mathlib.Numerals.{add-one}
 use native.Mathlib.Omega.{arith}
 use lib.ListN.{length, getD, take, drop, length-append}
-use lib.Seq.{drop-drop, take-at, drop-at, getD-take, getD-drop}
-use Rattle.meaning.specs.Codes.{lookup}
+use lib.Seq.{drop-nil, drop-drop, take-at, drop-at, getD-take, getD-drop}
+use Rattle.meaning.specs.Codes.{option, lookup}
 use Rattle.meaning.specs.Tokens.{bytes, numbered}
 use Rattle.tokens.specs.Lexing.{blank, filled, rows}
 
-length-filled : (n : ℕ) (s : List ℕ) → length (filled n s) ≡ n
+pub length-filled : (n : ℕ) (s : List ℕ) → length (filled n s) ≡ n
 length-filled zero s = refl
 length-filled (suc n) [] = ap suc (length-filled n [])
 length-filled (suc n) (b ∷ s) = ap suc (length-filled n s)
 
-pub filled-at : (n : ℕ) (s : List ℕ) (i d : ℕ) → i < n → getD (filled n s) i d ≡ getD s i blank
-filled-at zero s i d lt = absurd (omega arith)
-filled-at (suc n) [] zero d lt = refl
-filled-at (suc n) [] (suc i) d lt = filled-at n [] i d (omega arith)
-filled-at (suc n) (b ∷ s) zero d lt = refl
-filled-at (suc n) (b ∷ s) (suc i) d lt = filled-at n s i d (omega arith)
+-- A row in two parts.
+pub filled-parts : (n m : ℕ) (s : List ℕ) → filled (n + m) s ≡ filled n s ++ filled m (drop n s)
+filled-parts zero m s = rw (zero-add m)
+filled-parts (suc n) m [] = rw (suc-add n m, filled-parts n m [], drop-nil n)
+filled-parts (suc n) m (b ∷ s) = rw (suc-add n m, filled-parts n m s)
+
+filled-at : (n : ℕ) (s : List ℕ) (i : ℕ) → i < n → getD (filled n s) i 0 ≡ getD s i blank
+filled-at zero s i lt = absurd (omega arith)
+filled-at (suc n) [] zero lt = refl
+filled-at (suc n) [] (suc i) lt = filled-at n [] i (omega arith)
+filled-at (suc n) (b ∷ s) zero lt = refl
+filled-at (suc n) (b ∷ s) (suc i) lt = filled-at n s i (omega arith)
+
+-- What is found, by its number, where another number says that nothing is.
+pub told-some : {d k : ℕ} (o : Option ℕ) → k ≡ option d (λ n. n) o → (k ≡ d → ⊥) → o ≡ some k
+told-some none e ne = absurd (ne e)
+told-some (some n) e ne = rw e
+
+pub told-none : {d : ℕ} (o : Option ℕ) → d ≡ option d (λ n. n) o → ((n : ℕ) → o ≡ some n → d < n) → o ≡ none
+told-none none e above = refl
+told-none {d} (some n) e above = let is : d ≡ n = e in absurd (omega (arith, above n refl))
 
 -- Every text passes a test.
 abbrev pub every : (List ℕ → Bool) → List String → Bool
@@ -99,7 +115,7 @@ module _ (width : ℕ) (test : List ℕ → Bool) (first : ℕ) (texts : List St
   pub row-byte : {at kind : ℕ} (r : Row at kind) (i : ℕ) → i < width → getD list (at + i) 0 ≡ getD (bytes (r .text)) i blank
   row-byte {at} r i lt =
       sym (getD-take width (drop at list) i 0 lt ∙ getD-drop at list i 0)
-      ∙ rw (r .row) (filled-at width (bytes (r .text)) i 0 lt)
+      ∙ rw (r .row) (filled-at width (bytes (r .text)) i lt)
 
   -- Past the last row.
   pub walk-end : {at kind : ℕ} → Walk at kind → 0 < width → length list ≤ at → looked ≡ none

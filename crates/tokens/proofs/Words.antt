@@ -2,7 +2,7 @@
 use mathlib.Core.Path.{_≡_, refl, ap, _∙_}
 use mathlib.Core.Bool.{Bool, true, false, _&&_, _||_}
 use mathlib.Core.List.{List, [], _∷_}
-use mathlib.Core.Option.{Option, none, some}
+use mathlib.Core.Option.{none}
 use Prim.Native.Nat.{ℕ, suc, _+_, _≤_, _<_}
 use Prim.Native.String.{String}
 use native.Mathlib.Omega.{arith}
@@ -18,29 +18,18 @@ use Rattle.laws.proofs.The.{the-name}
 use Rattle.laws.proofs.Tests.{and-l, and-r, or-cases}
 use Rattle.laws.proofs.Bytes.{lengths-differ}
 use Rattle.laws.proofs.Pieces.{found, reserved-from}
-use Rattle.tokens.proofs.Walking.{every}
+use Rattle.tokens.proofs.Walking.{told-some, told-none, every}
 use Rattle.tokens.proofs.Spelling.{spelled-same, spaces, no-letters}
 
 -- A word as a piece, by its kind.
 module _ (at : ℕ) (s : List ℕ) where
   pub reserved-word : {k : ℕ} → k ≡ word-kind s → (k ≡ 2 → ⊥) → Token k 0 (length s) ≡ lexeme at (word s)
   unfolding word-kind word lexeme
-  reserved-word {k} is ne = go (found s words) (is ∙ rw the-name)
-    where
-      go : (o : Option ℕ) → k ≡ option 2 (λ n. n) o
-          → Token k 0 (length s) ≡ lexeme at (option (if leb (length s) name-limit then (λ _. token (the "name") 0 s (length s)) else λ _. bad) (λ n. token n 0 [] (length s)) o)
-      go none e = absurd (ne e)
-      go (some n) e = rw (← e, the-name, ne-eqb k 2 ne)
+  reserved-word {k} is ne = rw (told-some (found s words) (is ∙ rw the-name) ne, the-name, ne-eqb k 2 ne)
 
   name-word : 2 ≡ word-kind s → word s ≡ (if leb (length s) name-limit then (λ _. token (the "name") 0 s (length s)) else λ _. bad)
   unfolding word-kind word
-  name-word is = go (found s words) refl (is ∙ rw the-name)
-    where
-      go : (o : Option ℕ) → found s words ≡ o → 2 ≡ option 2 (λ n. n) o
-          → option (if leb (length s) name-limit then (λ _. token (the "name") 0 s (length s)) else λ _. bad) (λ n. token n 0 [] (length s)) o
-          ≡ (if leb (length s) name-limit then (λ _. token (the "name") 0 s (length s)) else λ _. bad)
-      go none h e = refl
-      go (some n) h e = let q : 2 ≡ n = e in absurd (omega (arith, reserved-from s h))
+  name-word is = rw (told-none (found s words) (is ∙ rw the-name) (λ n h. let le = reserved-from s h in omega arith))
 
   pub long-name : 2 ≡ word-kind s → name-limit < length s → Bad ≡ lexeme at (word s)
   unfolding lexeme

@@ -5,7 +5,7 @@ use mathlib.Core.Path.{_≡_}
 use mathlib.Core.Bool.{Bool, _&&_}
 use mathlib.Core.List.{List, [], _∷_, _++_}
 use lib.Dec.{eqb}
-use lib.ListN.{length, getD}
+use lib.ListN.{length, getD, drop}
 use Rattle.meaning.specs.Codes.{Out, ok, refused, if_then_else_, option, lookup, text-limit}
 use Rattle.meaning.specs.Tokens.{Token, Piece, over, bad, gap, token, the, bytes, equal, words, marks, space, digit, letter-or-digit, in-line, run-of, lexed}
 use Rattle.meaning.specs.Memory.{number-of}
@@ -91,7 +91,7 @@ rows n (r ∷ l) = filled n (bytes r) ++ rows n l
 
 -- Four letters of a word, from the i-th on, with spaces after its end.
 abbrev pub letters : List ℕ → ℕ → List ℕ
-letters s i = getD s i blank ∷ getD s (i + 1) blank ∷ getD s (i + 2) blank ∷ getD s (i + 3) blank ∷ []
+letters s i = filled 4 (drop i s)
 
 -- Are these, as numbers, the letters of a word, or of a row?
 unfoldable pub spelled : List ℕ → ℕ → ℕ → ℕ → Bool

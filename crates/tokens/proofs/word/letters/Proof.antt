@@ -1,10 +1,10 @@
 -- `tokens::word::letters` meets its contract: four bytes at once where the word has them, and else with spaces.
-use mathlib.Core.Path.{_≡_, sym, _∙_}
+use mathlib.Core.Path.{_≡_, sym, ap, _∙_}
 use Prim.Native.Nat.{_+_, _-_}
 use native.Mathlib.Omega.{arith}
 use borrow.Author.Needs.{needs}
-use Rattle.meaning.specs.Memory.{lane-of}
-use Rattle.tokens.proofs.Spelling.{four-letters, no-letters}
+use Rattle.meaning.specs.Memory.{lane-of, number-of}
+use Rattle.tokens.proofs.Spelling.{four-letters, each-letter, no-letters}
 use Rattle.tokens.proofs.word.letters.Statement.{statement}
 use Rattle.tokens.proofs.word.letters.Tie as tie
 
@@ -26,7 +26,10 @@ returns-3 c =
     let fourth = c .before .before in
     let third = fourth .before in
     let second = third .before in
-    c .int-of2 .ensures ∙ rw (second .before .byte-at .ensures, second .byte-at2 .ensures, third .byte-at3 .ensures, fourth .byte-at4 .ensures)
+    let first = second .before in
+    let args = first .before .before .before .before .args in
+    c .int-of2 .ensures
+    ∙ rw (first .byte-at .ensures, second .byte-at2 .ensures, third .byte-at3 .ensures, fourth .byte-at4 .ensures) (ap number-of (each-letter (args .word .now) (args .from)))
 
 pub letters-spec : {M : Type 1} → statement M
 letters-spec =
