@@ -1,5 +1,5 @@
-pub mod Lists
-pub mod Making
+pub mod ByKind
+pub mod Chunks
 pub mod Bytes
 pub mod Masks
 pub mod Stores

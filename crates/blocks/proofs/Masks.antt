@@ -16,7 +16,7 @@ use Rattle.meaning.specs.Memory.{Mask, bit, truth}
 use Rattle.meaning.specs.Running.{some-lane}
 use Rattle.operators.proofs.Bytes.{truth-is}
 use Rattle.blocks.specs.Masks.{Zero-or-one, bits, number}
-use Rattle.blocks.proofs.Lists.{map-at}
+use Rattle.laws.proofs.Lists.{map-at}
 
 pub length-bits : (n m : ℕ) → length (bits n m) ≡ n
 unfolding bits

@@ -6,11 +6,12 @@ ghost use Prim.Native.Nat.{ℕ, _+_, _*_, _<_, _≤_, _-_};
 ghost use lib.ListN.{length, take, drop, replicate};
 ghost use Rattle.meaning.specs.declared.Kind.the-variants.{Int as int, Bool as bool};
 ghost use Rattle.meaning.specs.Memory.{truth, bit as lane-bit, whole, load as loaded, store as stored};
-ghost use Rattle.meaning.specs.Running.{word-binary, unary-of, binary-of};
+ghost use Rattle.meaning.specs.Running.{word-unary, word-binary, float-unary, float-binary, unary-of, binary-of};
 ghost use Rattle.layout.specs.Instructions.{chunk-lanes, mask-bits};
 ghost use Rattle.operators.specs.Operators.{int-size, Sum, Order, Join};
 ghost use Rattle.blocks.specs.Masks.{Zero-or-one, bits, number};
-ghost use Rattle.blocks.specs.Chunks.{placed, padded, in-chunk, four-ints};
+ghost use Rattle.blocks.specs.Chunks.{placed, padded, in-chunk, four-ints, held-as, lane-stored};
+use floats::chunk;
 use meaning::Binary;
 use meaning::Kind;
 use meaning::Unary;
@@ -28,7 +29,7 @@ pub fn whole(kind: Kind, n: usize) -> usize
     ensures { λ r. ⌜ r ≡ whole kind n ⌝ }
 {
     match kind {
-        Kind::Int => n * INT,
+        Kind::Int | Kind::Float => n * INT,
         Kind::Bool => n,
     }
 }
@@ -75,9 +76,9 @@ fn joins(operator: Binary, x: [u32; 16], y: [u32; 16]) -> [u32; 16]
     r
 }
 
-// A binary operator between two chunks of a kind, lane by lane.
-pub fn operate(kind: Kind, operator: Binary, x: [u32; 16], y: [u32; 16]) -> [u32; 16]
-    ensures { λ r. ⌜ r ≡ zipWith (binary-of kind operator) x y ⌝ }
+// A binary operator between two chunks of words, lane by lane.
+fn words(operator: Binary, x: [u32; 16], y: [u32; 16]) -> [u32; 16]
+    ensures { λ r. ⌜ r ≡ zipWith (word-binary operator) x y ⌝ }
 {
     match operator {
         Binary::Add => sums(operator, x, y),
@@ -91,9 +92,37 @@ pub fn operate(kind: Kind, operator: Binary, x: [u32; 16], y: [u32; 16]) -> [u32
     }
 }
 
-// A unary operator of a chunk of a kind, lane by lane.
-pub fn signs(kind: Kind, operator: Unary, x: [u32; 16]) -> [u32; 16]
-    ensures { λ r. ⌜ r ≡ map (unary-of kind operator) x ⌝ }
+// The same between two chunks of singles. Each operator has an arm of its own, so that the loop over its lanes is made for it alone.
+fn singles(operator: Binary, x: [u32; 16], y: [u32; 16]) -> [u32; 16]
+    ensures { λ r. ⌜ r ≡ zipWith (float-binary operator) x y ⌝ }
+{
+    match operator {
+        Binary::Or | Binary::Xor | Binary::And => all(0),
+        Binary::Add => chunk::sums(operator, x, y),
+        Binary::Sub => chunk::sums(operator, x, y),
+        Binary::Mul => chunk::sums(operator, x, y),
+        Binary::Eq => chunk::orders(operator, x, y),
+        Binary::Ne => chunk::orders(operator, x, y),
+        Binary::Lt => chunk::orders(operator, x, y),
+        Binary::Gt => chunk::orders(operator, x, y),
+        Binary::Le => chunk::orders(operator, x, y),
+        Binary::Ge => chunk::orders(operator, x, y),
+    }
+}
+
+// A binary operator between two chunks of a kind, lane by lane.
+pub fn operate(kind: Kind, operator: Binary, x: [u32; 16], y: [u32; 16]) -> [u32; 16]
+    ensures { λ r. ⌜ r ≡ zipWith (binary-of kind operator) x y ⌝ }
+{
+    match kind {
+        Kind::Int | Kind::Bool => words(operator, x, y),
+        Kind::Float => singles(operator, x, y),
+    }
+}
+
+// A unary operator of a chunk of words, lane by lane.
+fn word_signs(operator: Unary, x: [u32; 16]) -> [u32; 16]
+    ensures { λ r. ⌜ r ≡ map (word-unary operator) x ⌝ }
 {
     let mut r = [0u32; 16];
     let mut i = 0usize;
@@ -104,6 +133,26 @@ pub fn signs(kind: Kind, operator: Unary, x: [u32; 16]) -> [u32; 16]
     r
 }
 
+// The same of a chunk of singles.
+fn single_signs(operator: Unary, x: [u32; 16]) -> [u32; 16]
+    ensures { λ r. ⌜ r ≡ map (float-unary operator) x ⌝ }
+{
+    match operator {
+        Unary::Neg => chunk::minuses(x),
+        Unary::Inv | Unary::Not => all(0),
+    }
+}
+
+// A unary operator of a chunk of a kind, lane by lane.
+pub fn signs(kind: Kind, operator: Unary, x: [u32; 16]) -> [u32; 16]
+    ensures { λ r. ⌜ r ≡ map (unary-of kind operator) x ⌝ }
+{
+    match kind {
+        Kind::Int | Kind::Bool => word_signs(operator, x),
+        Kind::Float => single_signs(operator, x),
+    }
+}
+
 // One lane in all.
 pub fn all(x: u32) -> [u32; 16]
     ensures { λ r. ⌜ r ≡ replicate chunk-lanes x ⌝ }
@@ -111,7 +160,7 @@ pub fn all(x: u32) -> [u32; 16]
     [x; 16]
 }
 
-// A chunk of ints from the bytes at an address.
+// A chunk of ints, or of the patterns of floats, from the bytes at an address.
 pub fn ints16(memory: &[u8], at: usize) -> [u32; 16]
     requires { ⌜ at + whole int chunk-lanes ≤ length (now memory) ⌝ }
     ensures { λ r. ⌜ r ≡ loaded int chunk-lanes (drop at (now (memory .entry))) ⌝ }
@@ -127,7 +176,7 @@ pub fn ints16(memory: &[u8], at: usize) -> [u32; 16]
     r
 }
 
-// n ints from the bytes at an address, and zeros.
+// n ints, or patterns of floats, from the bytes at an address, and zeros.
 fn ints(memory: &[u8], at: usize, n: usize) -> [u32; 16]
     requires { ⌜ (n ≤ chunk-lanes) × (at + whole int n ≤ length (now memory)) ⌝ }
     ensures { λ r. ⌜ r ≡ padded (loaded int n (drop at (now (memory .entry)))) ⌝ }
@@ -163,7 +212,7 @@ pub fn load(kind: Kind, memory: &[u8], at: usize, n: usize) -> [u32; 16]
     ensures { λ r. ⌜ r ≡ in-chunk (loaded kind n (drop at (now (memory .entry)))) ⌝ }
 {
     let lanes = match kind {
-        Kind::Int => ints(memory, at, n),
+        Kind::Int | Kind::Float => ints(memory, at, n),
         Kind::Bool => bools(memory, at, n),
     };
     if n == 1 {
@@ -295,19 +344,36 @@ fn store_bools(bytes: &mut [u8], mask: u64, x: [u32; 16], n: usize)
     }
 }
 
-// The active ones of n lanes go into the bytes of one variable, of a kind.
-pub fn store(kind: Kind, bytes: &mut [u8], mask: u64, x: [u32; 16], n: usize)
-    requires { ⌜ (n ≤ chunk-lanes) × (length (now bytes) ≡ whole kind n) ⌝ }
-    ensures { λ _. ⌜ now (bytes .exit) ≡ stored kind (bits n mask) x (now (bytes .entry)) ⌝ }
+// The active ones of n lanes go into the bytes of a variable of words.
+fn store_words(bytes: &mut [u8], mask: u64, x: [u32; 16], n: usize)
+    requires { ⌜ (n ≤ chunk-lanes) × (length (now bytes) ≡ whole int n) ⌝ }
+    ensures { λ _. ⌜ now (bytes .exit) ≡ stored int (bits n mask) x (now (bytes .entry)) ⌝ }
+{
+    if n == CHUNK {
+        store16(bytes, mask, x);
+    } else {
+        store_ints(bytes, mask, x, n);
+    }
+}
+
+// Lanes of a kind as they are stored.
+pub fn as_stored(kind: Kind, x: [u32; 16]) -> [u32; 16]
+    ensures { λ r. ⌜ r ≡ map (lane-stored kind) x ⌝ }
 {
     match kind {
-        Kind::Int => {
-            if n == CHUNK {
-                store16(bytes, mask, x);
-            } else {
-                store_ints(bytes, mask, x, n);
-            }
-        }
+        Kind::Int | Kind::Bool => x,
+        Kind::Float => chunk::one_nans(x),
+    }
+}
+
+// The active ones of n lanes go into the bytes of one variable, of a kind, as they are: those of floats are made by `as_stored` before, and
+// not here, so that the lanes of ints stay in the machine's registers.
+pub fn store(kind: Kind, bytes: &mut [u8], mask: u64, x: [u32; 16], n: usize)
+    requires { ⌜ (n ≤ chunk-lanes) × (length (now bytes) ≡ whole kind n) ⌝ }
+    ensures { λ _. ⌜ now (bytes .exit) ≡ stored (held-as kind) (bits n mask) x (now (bytes .entry)) ⌝ }
+{
+    match kind {
+        Kind::Int | Kind::Float => store_words(bytes, mask, x, n),
         Kind::Bool => store_bools(bytes, mask, x, n),
     }
 }

@@ -238,11 +238,12 @@ module _ (ts : List Token) where
         (both "~" (λ x l p at. signed (Grammar.inv x) l p at)
         (both "!" (λ x l p at. signed (Grammar.not x) l p at)
         (both "number" (λ x l p at. gives at)
+        (both "float number" (λ x l p at. gives at)
         (both "true" (λ x l p at. gives at)
         (both "false" (λ x l p at. gives at)
         (both "name" (λ x l p at. gives at)
         (both "current_mask" (λ x l p at. gives at)
-        (both "(" in-parens none-left))))))))) l p at
+        (both "(" in-parens none-left)))))))))) l p at
 
   -- An operand and an expression with room r.
   unaries-agree : (r : ℕ) (l : List Token) (p : ℕ) → At p l → Agrees expression-tree (P.operands K r l) (unaries ts r p)
@@ -351,6 +352,7 @@ module _ (ts : List Token) where
         (both "{" (λ x l p at. and-then _ _ (in-braces (token x) l p at) (λ b l p at. gives at))
         (both "int" (λ x l p at. declaration-agrees r (Grammar.int x) l p at)
         (both "bool" (λ x l p at. declaration-agrees r (Grammar.bool x) l p at)
+        (both "float" (λ x l p at. declaration-agrees r (Grammar.float x) l p at)
         (both "name" (λ x l p at.
         and-then _ _ (one-agrees "=" l p at) (λ q l p at.
         and-then _ _ (expression-agrees r l p at) (λ e l p at.
@@ -364,7 +366,7 @@ module _ (ts : List Token) where
         and-then _ _ (condition-agrees r l p at) (λ c l p at.
         and-then _ _ (part l p at) (λ s l p at. gives at)))
         (both "scalar" (λ t l p at. and-then _ _ (part l p at) (λ s l p at. gives at))
-        none-left)))))))) l p at
+        none-left))))))))) l p at
 
   statement-agrees : (r : ℕ) (l : List Token) (p : ℕ) → At p l → Agrees statement-tree (P.statement K r l) (R.statement ts r p)
   unfolding P.statement R.statement

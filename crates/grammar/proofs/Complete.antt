@@ -15,7 +15,7 @@ use Rattle.meaning.specs.Codes.{ok, after, _>>=_, give, option, repeat, _among_
 use Rattle.meaning.specs.Tokens.{Token, the, words, marks, numbered, reserved, signs}
 use Rattle.meaning.specs.Tree.{kinds}
 use Rattle.meaning.specs.Reading.{begins}
-use Rattle.grammar.specs.Grammar.{The, every-level, no-level, Operator, or, xor, and, eq, ne, lt, gt, le, ge, add, sub, mul, Sign, neg, inv, not, Expression, number, true, false, name, current-mask, parenthesised, unary, binary, tighter, Kind-word, int, bool, Block-part, no-block, block, Statement, empty, braces, declaration, initialised, assignment, if-else, while, scalar, Statements, none-yet, _⨾_, Program, token, operator-token, sign-token, kind-token, expression-nesting, statement-nesting, statements-nesting}
+use Rattle.grammar.specs.Grammar.{The, every-level, no-level, Operator, or, xor, and, eq, ne, lt, gt, le, ge, add, sub, mul, Sign, neg, inv, not, Expression, number, float-number, true, false, name, current-mask, parenthesised, unary, binary, tighter, Kind-word, int, bool, float, Block-part, no-block, block, Statement, empty, braces, declaration, initialised, assignment, if-else, while, scalar, Statements, none-yet, _⨾_, Program, token, operator-token, sign-token, kind-token, expression-nesting, statement-nesting, statements-nesting}
 use Rattle.grammar.proofs.Written.{expression-before, block-before, statement-before, statements-before}
 use Rattle.grammar.proofs.Parse.{Parse, find, pick, one, first, operators, one-more, grouped, operand, operands, expression, deeper-operand, deeper-expression, operands-is, condition, a-block, declared, opening, another, many, braced, statement-over, statement, deeper-statement, deeper-statements, statement-is, program}
 
@@ -82,6 +82,7 @@ clear-less t (suc n) e = go (find t (operators n)) e
 -- How many operators of its loosest level an expression has outside parentheses; it has at least as many tokens.
 unfoldable pub turns : {n : ℕ} → Expression n → ℕ
 turns (number t) = 0
+turns (float-number t) = 0
 turns (true t) = 0
 turns (false t) = 0
 turns (name t) = 0
@@ -94,6 +95,7 @@ turns (tighter e) = 0
 pub longer : {n : ℕ} (e : Expression n) (l : List Token) → turns e + length l ≤ length (expression-before e l)
 unfolding turns expression-before
 longer (number t) l = omega arith
+longer (float-number t) l = omega arith
 longer (true t) l = omega arith
 longer (false t) l = omega arith
 longer (name t) l = omega arith
@@ -122,8 +124,10 @@ starts (empty t) l = refl
 starts (braces x m y) l = refl
 starts (declaration (int t) b x c) l = refl
 starts (declaration (bool t) b x c) l = refl
+starts (declaration (float t) b x c) l = refl
 starts (initialised (int t) b x q e c) l = refl
 starts (initialised (bool t) b x q e c) l = refl
+starts (initialised (float t) b x q e c) l = refl
 starts (assignment x q e c) l = refl
 starts (if-else t x e y s v u) l = refl
 starts (while t x e y s) l = refl
@@ -234,6 +238,7 @@ module _ (K : ℕ) where
   pub complete : {n : ℕ} (e : Expression n) → Complete e
   unfolding loop rest turns less expression-before expression-nesting operand pick find one first clear token the words marks numbered reserved signs
   complete (number t) = record { by = λ k r l f d c. rw (operands-is K r) }
+  complete (float-number t) = record { by = λ k r l f d c. rw (operands-is K r) }
   complete (true t) = record { by = λ k r l f d c. rw (operands-is K r) }
   complete (false t) = record { by = λ k r l f d c. rw (operands-is K r) }
   complete (name t) = record { by = λ k r l f d c. rw (operands-is K r) }
@@ -299,6 +304,7 @@ module _ (K : ℕ) where
   unfolding statement-over pick find kind-token the words marks numbered reserved signs
   kinded (int t) r l = rw (statement-is K r)
   kinded (bool t) r l = rw (statement-is K r)
+  kinded (float t) r l = rw (statement-is K r)
 
   module _ (r : ℕ) (k : Kind-word) (b : Block-part) (x : The "name") (l : List Token) where
     declaration-complete : (c : The ";") → declared K r k (block-before b (token x ∷ token c ∷ l)) ≡ ok (declaration k b x c) l

@@ -12,7 +12,7 @@ use Rattle.meaning.specs.Codes.{Out, refused, Doing, after, repeat, _among_}
 use Rattle.meaning.specs.Tokens.{Token, the, words, marks, numbered, reserved, signs}
 use Rattle.meaning.specs.Tree.{kinds}
 use Rattle.meaning.specs.Reading.{begins}
-use Rattle.grammar.specs.Grammar.{The, every-level, no-level, Operator, Expression, number, true, false, name, current-mask, parenthesised, unary, binary, tighter, Kind-word, Block-part, Statement, empty, braces, declaration, initialised, assignment, if-else, while, scalar, Statements, none-yet, _⨾_, Program, token, operator-token, expression-nesting, statement-nesting, statements-nesting}
+use Rattle.grammar.specs.Grammar.{The, every-level, no-level, Operator, Expression, number, float-number, true, false, name, current-mask, parenthesised, unary, binary, tighter, Kind-word, Block-part, Statement, empty, braces, declaration, initialised, assignment, if-else, while, scalar, Statements, none-yet, _⨾_, Program, token, operator-token, expression-nesting, statement-nesting, statements-nesting}
 use Rattle.grammar.proofs.Written.{expression-before, block-before, statement-before, statements-before}
 use Rattle.grammar.proofs.Parse.{find, pick, one, first, one-more, grouped, operand, operands, expression, deeper-operand, deeper-expression, operands-is, condition, declared, opening, another, many, braced, statement-over, statement, deeper-statement, deeper-statements, statement-is, program}
 use Rattle.grammar.proofs.Complete.{found-operator, clear, operator-clear, less, clear-less, turns, longer, loop, rest, loop-is, complete, signed, block-complete, kinded, condition-complete, part-complete, opened, not-closed, how-many, block-longer, statement-longer, statements-longer, statement-complete, statements-complete}
@@ -78,6 +78,7 @@ module _ (K : ℕ) where
   deep : {n : ℕ} (e : Expression n) → Deep e
   unfolding loop rest turns less expression-before expression-nesting operand pick find one first clear token the words marks numbered reserved signs
   deep (number t) = record { by = λ k r l f d c. absurd (omega arith) }
+  deep (float-number t) = record { by = λ k r l f d c. absurd (omega arith) }
   deep (true t) = record { by = λ k r l f d c. absurd (omega arith) }
   deep (false t) = record { by = λ k r l f d c. absurd (omega arith) }
   deep (name t) = record { by = λ k r l f d c. absurd (omega arith) }

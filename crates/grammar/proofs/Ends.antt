@@ -10,7 +10,7 @@ use Rattle.meaning.specs.Codes.{if_then_else_}
 use Rattle.meaning.specs.Tokens.{Token, end-at, the, words, marks, numbered, reserved, signs}
 use Rattle.laws.specs.Tokens.{All-in, the-last, one-more}
 use Rattle.laws.proofs.Tokens.{spelled-some}
-use Rattle.grammar.specs.Grammar.{Operator, or, xor, and, eq, ne, lt, gt, le, ge, add, sub, mul, Sign, neg, inv, not, Expression, number, true as a-true, false as a-false, name, current-mask, parenthesised, unary, binary, tighter, Kind-word, int, bool, Block-part, no-block, block, Statement, empty, braces, declaration, initialised, assignment, if-else, while, scalar, Statements, none-yet, _⨾_, token, operator-token, sign-token, kind-token}
+use Rattle.grammar.specs.Grammar.{Operator, or, xor, and, eq, ne, lt, gt, le, ge, add, sub, mul, Sign, neg, inv, not, Expression, number, float-number, true as a-true, false as a-false, name, current-mask, parenthesised, unary, binary, tighter, Kind-word, int, bool, float, Block-part, no-block, block, Statement, empty, braces, declaration, initialised, assignment, if-else, while, scalar, Statements, none-yet, _⨾_, token, operator-token, sign-token, kind-token}
 use Rattle.grammar.proofs.Written.{expression-before, block-before, statement-before, statements-before}
 
 -- How many of some tokens are the end of the text.
@@ -43,6 +43,7 @@ sign-ends (not t) l = refl
 expression-ends : {n : ℕ} (e : Expression n) (l : List Token) → ends (expression-before e l) ≡ ends l
 unfolding ends expression-before token
 expression-ends (number t) l = refl
+expression-ends (float-number t) l = refl
 expression-ends (a-true t) l = refl
 expression-ends (a-false t) l = refl
 expression-ends (name t) l = refl
@@ -57,6 +58,7 @@ kind-ends : (k : Kind-word) (l : List Token) → ends (kind-token k ∷ l) ≡ e
 unfolding ends kind-token
 kind-ends (int t) l = refl
 kind-ends (bool t) l = refl
+kind-ends (float t) l = refl
 
 block-ends : (b : Block-part) (l : List Token) → ends (block-before b l) ≡ ends l
 unfolding ends block-before token

@@ -10,7 +10,7 @@ use Rattle.meaning.specs.declared.Refusal.the-variants.{NotAllowed, TooDeep}
 use Rattle.meaning.specs.Codes.{ok, refused, Doing, after, _>>=_, _>>_, give, refuse, check, option, repeat, if_then_else_, _among_}
 use Rattle.meaning.specs.Tokens.{Token, end-at, the}
 use Rattle.meaning.specs.Reading.{begins}
-use Rattle.grammar.specs.Grammar.{The, every-level, no-level, Operator, or, xor, and, eq, ne, lt, gt, le, ge, add, sub, mul, neg, inv, not, Expression, number, true, false, name, current-mask, parenthesised, unary, binary, tighter, Kind-word, int, bool, Block-part, no-block, block, Statement, empty, braces, declaration, initialised, assignment, if-else, while, scalar, Statements, none-yet, _⨾_, Program}
+use Rattle.grammar.specs.Grammar.{The, every-level, no-level, Operator, or, xor, and, eq, ne, lt, gt, le, ge, add, sub, mul, neg, inv, not, Expression, number, float-number, true, false, name, current-mask, parenthesised, unary, binary, tighter, Kind-word, int, bool, float, Block-part, no-block, block, Statement, empty, braces, declaration, initialised, assignment, if-else, while, scalar, Statements, none-yet, _⨾_, Program}
 use Rattle.grammar.proofs.Levels.{as-the}
 
 -- Reading goes on from the tokens that are left.
@@ -73,6 +73,7 @@ operand deep inside = pick (
     ∷ ("~", λ x. do e ← deep; give (unary (inv x) e))
     ∷ ("!", λ x. do e ← deep; give (unary (not x) e))
     ∷ ("number", λ x. give (number x))
+    ∷ ("float number", λ x. give (float-number x))
     ∷ ("true", λ x. give (true x))
     ∷ ("false", λ x. give (false x))
     ∷ ("name", λ x. give (name x))
@@ -159,6 +160,7 @@ module _ (K : ℕ) where
       ∷ ("{", λ x. do b ← inside; give (braces x (b .0) (b .1)))
       ∷ ("int", λ x. declared r (int x))
       ∷ ("bool", λ x. declared r (bool x))
+      ∷ ("float", λ x. declared r (float x))
       ∷ ("name", λ x. do q ← one "="; e ← expression r; c ← one ";"; give (assignment x q e c))
       ∷ ("if", λ t. do c ← condition r; s ← opening deep; v ← one "else"; u ← opening deep; give (if-else t (c .0) (c .1) (c .2) s v u))
       ∷ ("while", λ t. do c ← condition r; s ← opening deep; give (while t (c .0) (c .1) (c .2) s))

@@ -173,6 +173,7 @@ module _ (ts : List Token) where
         (case "~" refl (λ x h. signed p (Grammar.inv x) h)
         (case "!" refl (λ x h. signed p (Grammar.not x) h)
         (case "number" refl (λ x h. leaf p (Grammar.number x) refl h)
+        (case "float number" refl (λ x h. leaf p (Grammar.float-number x) refl h)
         (case "true" refl (λ x h. leaf p (Grammar.true x) refl h)
         (case "false" refl (λ x h. leaf p (Grammar.false x) refl h)
         (case "name" refl (λ x h. leaf p (Grammar.name x) refl h)
@@ -184,7 +185,7 @@ module _ (ts : List Token) where
           is = k .is;
           nested = omega (arith, k .nested);
         }))
-        none-left)))))))))
+        none-left))))))))))
 
   -- An operand where r more levels may open, and an expression there.
   unaries-yield : (r p : ℕ) → Yields (An-expression no-level (suc r) p) (unaries ts r p)
@@ -357,13 +358,14 @@ module _ (ts : List Token) where
         well (record { it = Grammar.braces x (k .it .0) (k .it .1); passes = rw (← k .passes) h; is = rw (k .is); nested = omega (arith, k .nested) })))
         (case "int" refl (λ x h. declaration-yields r p (suc p) (Grammar.int x) h)
         (case "bool" refl (λ x h. declaration-yields r p (suc p) (Grammar.bool x) h)
+        (case "float" refl (λ x h. declaration-yields r p (suc p) (Grammar.float x) h)
         (case "name" refl (λ x h. assignment-yields r p x h)
         (case "if" refl (λ x h. if-yields p x h)
         (case "while" refl (λ x h. while-yields p x h)
         (case "scalar" refl (λ x h.
         followed _ (part (suc p)) (λ a q k.
         well (record { it = Grammar.scalar x (k .it); passes = rw (← k .passes) h; is = rw (k .is); nested = omega (arith, k .nested) })))
-        none-left))))))))
+        none-left)))))))))
 
   statement-yields : (r p : ℕ) → Yields (A-statement (suc r) p) (R.statement ts r p)
   unfolding R.statement

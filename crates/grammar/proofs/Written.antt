@@ -3,10 +3,11 @@ use Prim.Native.Nat.{ℕ}
 use mathlib.Core.Path.{_≡_, refl}
 use mathlib.Core.List.{List, _∷_, _++_, append-assoc}
 use Rattle.meaning.specs.Tokens.{Token}
-use Rattle.grammar.specs.Grammar.{Expression, number, true, false, name, current-mask, parenthesised, unary, binary, tighter, Block-part, no-block, block, Statement, empty, braces, declaration, initialised, assignment, if-else, while, scalar, Statements, none-yet, _⨾_, token, operator-token, sign-token, kind-token, expression-tokens, block-tokens, statement-tokens, statements-tokens}
+use Rattle.grammar.specs.Grammar.{Expression, number, float-number, true, false, name, current-mask, parenthesised, unary, binary, tighter, Block-part, no-block, block, Statement, empty, braces, declaration, initialised, assignment, if-else, while, scalar, Statements, none-yet, _⨾_, token, operator-token, sign-token, kind-token, expression-tokens, block-tokens, statement-tokens, statements-tokens}
 
 unfoldable pub expression-before : {n : ℕ} → Expression n → List Token → List Token
 expression-before (number t) l = token t ∷ l
+expression-before (float-number t) l = token t ∷ l
 expression-before (true t) l = token t ∷ l
 expression-before (false t) l = token t ∷ l
 expression-before (name t) l = token t ∷ l
@@ -41,6 +42,7 @@ unfoldable mutual
 pub expression-joins : {n : ℕ} (e : Expression n) (l : List Token) → expression-before e l ≡ expression-tokens e ++ l
 unfolding expression-before expression-tokens
 expression-joins (number t) l = refl
+expression-joins (float-number t) l = refl
 expression-joins (true t) l = refl
 expression-joins (false t) l = refl
 expression-joins (name t) l = refl

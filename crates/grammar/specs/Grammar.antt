@@ -1,4 +1,4 @@
--- Document 01, "The text": the grammar as derivations, with parentheses kept and nesting without a limit.
+-- Document 01, "The text", and document 02, R-2: the grammar as derivations, with parentheses kept and nesting without a limit.
 use Prim.Native.Nat.{ℕ, suc, _≤_, max}
 use Prim.Native.String.{String}
 use mathlib.Core.Path.{_≡_}
@@ -74,8 +74,10 @@ no-level = 0
 
 -- An expression with the operators of so many levels, the tightest ones.
 pub data Expression : ℕ → Type 0 where
-  -- "then number, true, false, name, current_mask, or a parenthesised expression"
+  -- "then number, true, false, name, current_mask, or a parenthesised expression"; document 02, R-2: "A constant is a whole number up to
+  -- 16777216 followed by `.0`", one token
   number : The "number" → Expression no-level
+  float-number : The "float number" → Expression no-level
   true : The "true" → Expression no-level
   false : The "false" → Expression no-level
   name : The "name" → Expression no-level
@@ -86,10 +88,11 @@ pub data Expression : ℕ → Type 0 where
   binary : {n : ℕ} → Expression (suc n) → Operator n → Expression n → Expression (suc n)
   tighter : {n : ℕ} → Expression n → Expression (suc n)
 
--- "A type is `int` or `bool`, then perhaps `block[N]`."
+-- "A type is `int` or `bool`, then perhaps `block[N]`."; document 02, R-2: "Add `float`".
 pub data Kind-word : Type 0 where
   int : The "int" → Kind-word
   bool : The "bool" → Kind-word
+  float : The "float" → Kind-word
 
 pub data Block-part : Type 0 where
   no-block : Block-part
@@ -148,6 +151,7 @@ sign-token (not t) = token t
 unfoldable pub expression-tokens : {n : ℕ} → Expression n → List Token
 unfolding token operator-token sign-token
 expression-tokens (number t) = token t ∷ []
+expression-tokens (float-number t) = token t ∷ []
 expression-tokens (true t) = token t ∷ []
 expression-tokens (false t) = token t ∷ []
 expression-tokens (name t) = token t ∷ []
@@ -162,6 +166,7 @@ unfoldable pub kind-token : Kind-word → Token
 unfolding token
 kind-token (int t) = token t
 kind-token (bool t) = token t
+kind-token (float t) = token t
 
 unfoldable pub block-tokens : Block-part → List Token
 unfolding token
@@ -195,6 +200,7 @@ program-tokens p = statements-tokens (p .statements) ++ token (p .end) ∷ []
 -- scalar not complete": the most at any point. Of an expression.
 unfoldable pub expression-nesting : {n : ℕ} → Expression n → ℕ
 expression-nesting (number t) = 0
+expression-nesting (float-number t) = 0
 expression-nesting (true t) = 0
 expression-nesting (false t) = 0
 expression-nesting (name t) = 0
@@ -251,6 +257,7 @@ sign-of (not t) = U.Not
 unfoldable pub expression-tree : {n : ℕ} → Expression n → Expr
 unfolding operator-token operator-of sign-token sign-of
 expression-tree (number t) = T.number (t .value)
+expression-tree (float-number t) = T.float-number (t .value)
 expression-tree (true t) = T.boolean B.true
 expression-tree (false t) = T.boolean B.false
 expression-tree (name t) = T.name (t .place) (t .spelled)
@@ -264,6 +271,7 @@ expression-tree (tighter e) = expression-tree e
 unfoldable pub kind-of : Kind-word → Kind
 kind-of (int t) = K.Int
 kind-of (bool t) = K.Bool
+kind-of (float t) = K.Float
 
 unfoldable pub block-of : Block-part → Block
 block-of no-block = none

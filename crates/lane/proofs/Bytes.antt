@@ -8,7 +8,8 @@ use native.Mathlib.Omega.{arith}
 use lib.ListN.{length, getD, take, drop, length-append, length-take, length-drop, take-append-drop}
 use lib.Seq.{drop-drop, length-take-le, take-append-le, drop-append-le, drop-append-add, take-at}
 use Rattle.meaning.specs.declared.Kind.{Kind}
-use Rattle.meaning.specs.declared.Kind.the-variants.{Int as int, Bool as bool}
+use Rattle.meaning.specs.declared.Kind.the-variants.{Int as int, Bool as bool, Float as float}
+use Rattle.meaning.specs.Floats.{one-nan}
 use Rattle.meaning.specs.Memory.{Memory, Value, Mask, Declared, Declarations, declared, size, whole, little-endian, bytes-of, lane-of, load, store, spread, fetch, update}
 use Rattle.laws.specs.Lengths.{Spreadable}
 use Rattle.laws.specs.Declarations.{end-of}
@@ -74,6 +75,7 @@ length-bytes-of : (k : Kind) (a : ℕ) → length (bytes-of k a) ≡ size k
 unfolding bytes-of size
 length-bytes-of int a = length-little-endian 4 a
 length-bytes-of bool a = refl
+length-bytes-of float a = length-little-endian 4 (one-nan a)
 
 -- Lane 0, and a lane further on.
 module _ (k : Kind) where

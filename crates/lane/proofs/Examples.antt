@@ -1,4 +1,4 @@
--- Document 01's routine lane by lane, a use of the theorem, and why `scalar` is excluded: by computation.
+-- Document 01's routine and one of floats lane by lane, uses of the theorem, and why `scalar` is excluded: by computation.
 use mathlib.Core.Path.{_≡_, refl}
 use mathlib.Core.List.{List, [], _∷_, _++_, map}
 use Prim.Native.Nat.{ℕ}
@@ -65,6 +65,55 @@ routine-of-four = of-one-length 4 (bytes routine) tt
 pub third-by-itself : Lane-by-itself 2 (bytes routine) 1000 full-memory
 unfolding full-memory samples ints routine bytes little-endian run answer
 third-by-itself = demand-three 4 (bytes routine) routine-of-four .one-lane 1000 full-memory (record { code = refl }) 2 (omega arith)
+
+-- Floats: lanes are compared byte for byte. Lane 0 is 2, lane 1 a not-a-number, which no store touches, lane 2 is 0.1 and lane 3 infinity,
+-- whose difference with itself is stored as 7FC00000. A constant is no length: narrowing leaves it as it is written.
+unfoldable pub singles : String
+singles = "float block[4] v; float block[4] w = v - v; if (v < 4.0) v = v * v - 16.0; else ;"
+
+unfoldable pub narrowed-singles : String
+narrowed-singles = "float block[1] v; float block[1] w = v - v; if (v < 4.0) v = v * v - 16.0; else ;"
+
+pub singles-narrow : narrow (bytes singles) ≡ bytes narrowed-singles
+unfolding narrow narrowed-singles singles bytes lexed
+singles-narrow = refl
+
+unfoldable pub singles-memory : Memory
+singles-memory = ints (0x40000000 ∷ 0x7FC00001 ∷ 0x3DCCCCCD ∷ 0x7F800000 ∷ []) ++ replicate 16 0xaa
+
+unfoldable pub single-memory : ℕ → Memory
+single-memory a = ints (a ∷ []) ++ untouched
+
+unfoldable pub single-lanes : List Row
+single-lanes =
+    singles over singles-memory for 1000 gives (0, 0, 32, 5)
+    leaves ints (0xC1400000 ∷ 0x7FC00001 ∷ 0xC17FD70A ∷ 0x7F800000 ∷ 0 ∷ 0x7FC00000 ∷ 0 ∷ 0x7FC00000 ∷ [])
+    ∷ narrowed-singles over single-memory 0x40000000 for 1000 gives (0, 0, 8, 4) leaves ints (0xC1400000 ∷ 0 ∷ [])
+    ∷ narrowed-singles over single-memory 0x7FC00001 for 1000 gives (0, 0, 8, 4) leaves ints (0x7FC00001 ∷ 0x7FC00000 ∷ [])
+    ∷ narrowed-singles over single-memory 0x3DCCCCCD for 1000 gives (0, 0, 8, 4) leaves ints (0xC17FD70A ∷ 0 ∷ [])
+    ∷ narrowed-singles over single-memory 0x7F800000 for 1000 gives (0, 0, 8, 4) leaves ints (0x7F800000 ∷ 0x7FC00000 ∷ [])
+    ∷ []
+
+pub single-by-single : map found single-lanes ≡ map expected single-lanes
+unfolding found expected judged-as the-judge-gives only-a-run-gives singles narrowed-singles singles-memory single-memory untouched single-lanes _over_for_gives_leaves_ ints bytes little-endian run judge answer
+single-by-single = refl
+
+-- The not-a-number's lane, by the theorem.
+pub second-single-follows : Follows-lane 1 (bytes singles) 1000 singles-memory (single-memory 0x7FC00001)
+unfolding asked? has-lane? holds-lane? all-below scalar-free narrow variables-in lane-bytes singles-memory single-memory untouched ints singles bytes little-endian lexed judged run answer declared
+second-single-follows = instance (bytes singles) 1 1000 singles-memory (single-memory 0x7FC00001) one-lane tt tt
+
+-- `block[4.0]` is refused, and stays so.
+unfoldable pub no-length : String
+no-length = "float block[4.0] v;"
+
+pub no-length-narrows : narrow (bytes no-length) ≡ bytes no-length
+unfolding narrow no-length bytes lexed
+no-length-narrows = refl
+
+pub no-length-refused : judge (bytes no-length) ≡ answer 3 12 0 0
+unfolding no-length bytes judge answer
+no-length-refused = refl
 
 -- With `scalar` the conclusion fails: here lane 0 alone takes the branch, and `scalar` writes both lanes of `a`.
 unfoldable pub leaking : String

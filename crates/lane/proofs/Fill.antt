@@ -7,7 +7,7 @@ use native.Mathlib.Omega.{arith}
 use lib.ListN.{length, take, drop, replicate, length-replicate, length-take, length-drop}
 use lib.Seq.{take-all, length-take-le}
 use Rattle.meaning.specs.declared.Kind.{Kind}
-use Rattle.meaning.specs.declared.Kind.the-variants.{Int as int, Bool as bool}
+use Rattle.meaning.specs.declared.Kind.the-variants.{Int as int, Bool as bool, Float as float}
 use Rattle.meaning.specs.Memory.{Memory, Declared, Declarations, declared, size, whole, need}
 use Rattle.laws.specs.Declarations.{end-of, Ordered}
 use Rattle.laws.specs.Values.{All, Bytes}
@@ -82,6 +82,7 @@ some-size : (k : Kind) → 0 < size k
 unfolding size
 some-size int = omega arith
 some-size bool = omega arith
+some-size float = omega arith
 
 some-whole : (k : Kind) (n : ℕ) → n ≡ 1 → 0 < whole k n
 unfolding whole

@@ -1,17 +1,19 @@
 -- What a text starts with is settled by those bytes and by what sort of byte follows them.
 use mathlib.Core.Path.{_≡_, refl, sym, ap, _∙_, subst}
-use mathlib.Core.Bool.{Bool, true, false, not, _&&_, _||_}
-use mathlib.Core.List.{List, [], _∷_, _++_}
+use mathlib.Core.Bool.{Bool, true, false, not, _&&_, _||_, false≢true}
+use mathlib.Core.List.{List, [], _∷_, _++_, append-assoc}
 use mathlib.Core.Option.{Option, none, some}
-use Prim.Native.Nat.{ℕ, suc, _≤_, _<_}
+use Prim.Native.Nat.{ℕ, suc, _+_, _≤_, _<_}
 use Prim.Native.String.{String}
 use native.Mathlib.Omega.{arith}
-use lib.Dec.{T, eqb, leb, eqb→eq, leb→le}
-use lib.ListN.{length, take, drop}
-use lib.Seq.{length-take-le, take-at}
-use Rattle.meaning.specs.Codes.{if_then_else_, option, lookup, name-limit}
-use Rattle.meaning.specs.Tokens.{bytes, the, signs, numbered, words, marks, space, digit, letter, letter-or-digit, in-line, run-of, starts, equal, decimal, good-number, Piece, over, bad, gap, token, word, digits, sign, piece}
-use Rattle.laws.proofs.Bytes.{run-within}
+use lib.Dec.{T, T-not, eqb, leb, eqb→eq, leb→le}
+use lib.ListN.{length, take, drop, length-append, take-append-drop}
+use lib.Seq.{length-take-le, take-at, drop-at}
+use Rattle.meaning.specs.Codes.{if_then_else_, option, lookup, name-limit, number-limit, float-limit}
+use Rattle.meaning.specs.Tokens.{bytes, the, signs, numbered, words, marks, space, digit, letter, letter-or-digit, in-line, run-of, starts, equal, decimal, good-number, Piece, over, bad, gap, token, word, digits, constant, numeral, sign, piece}
+use Rattle.meaning.specs.Floats.{whole-float}
+use Rattle.laws.proofs.Bytes.{run-within, run-length, equal-same}
+use Rattle.laws.proofs.The.{float-number-not-number}
 use Rattle.lane.proofs.Tests.{and-l, and-r, or-cases, true-of, false-of}
 
 -- Two rests that begin alike: with the same byte, or each with a digit.
@@ -92,8 +94,13 @@ module _ (c : ℕ) where
     digit-space : space c ≡ false
     digit-space = false-of (space c) (λ u. space-cases (λ c. 48 ≤ c → ⊥) (λ h. omega arith) (λ h. omega arith) (λ h. omega arith) (λ h. omega arith) c u low)
 
+    -- A byte that is no digit is another.
+    digit-other : (d : ℕ) → T (not (digit d)) → eqb d c ≡ false
+    digit-other d h = false-of (eqb d c) (λ u. T-not (digit d) h (rw (eqb→eq d c u) t))
+
     digit-slash : eqb 47 c ≡ false
-    digit-slash = false-of (eqb 47 c) (λ u. omega (arith, low, eqb→eq 47 c u))
+    unfolding digit
+    digit-slash = digit-other 47 tt
 
     digit-letter : letter c ≡ false
     unfolding letter
@@ -112,9 +119,6 @@ module _ (c : ℕ) where
     unfolding letter-or-digit
     digit-in-word = rw digit-letter (true-of (digit c) t)
 
-    digit-equals : eqb 61 c ≡ false
-    digit-equals = false-of (eqb 61 c) (λ u. omega (arith, high, eqb→eq 61 c u))
-
 -- The pieces, by the first bytes.
 piece-end : piece [] ≡ over
 unfolding piece
@@ -132,9 +136,25 @@ piece-word : (c : ℕ) (s : List ℕ) → T (letter c) → piece (c ∷ s) ≡ w
 unfolding piece run-of starts letter-or-digit bytes
 piece-word c s t = rw (letter-space c t, letter-slash c t, true-of (letter c) t)
 
-pub piece-number : (c : ℕ) (s : List ℕ) → T (digit c) → piece (c ∷ s) ≡ digits (c ∷ take (run-of digit s) s)
+piece-numeral : (c : ℕ) (s : List ℕ) → T (digit c) → piece (c ∷ s) ≡ numeral (c ∷ take (run-of digit s) s) (drop (run-of digit s) s)
 unfolding piece run-of starts bytes
-piece-number c s t = rw (digit-space c t, digit-slash c t, digit-letter c t, true-of (digit c) t)
+piece-numeral c s t = rw (digit-space c t, digit-slash c t, digit-letter c t, true-of (digit c) t)
+
+-- Do the bytes s, behind a digit, have a point where their digits end?
+abbrev pub pointed : List ℕ → Bool
+pointed s = starts (bytes ".") (drop (run-of digit s) s)
+
+pub piece-number : (c : ℕ) (s : List ℕ) → T (digit c) → pointed s ≡ false → piece (c ∷ s) ≡ digits (c ∷ take (run-of digit s) s)
+unfolding numeral
+piece-number c s t p = piece-numeral c s t ∙ rw p
+
+-- The digits behind the point of a constant.
+abbrev fraction : List ℕ → List ℕ
+fraction s = let u = drop 1 (drop (run-of digit s) s) in take (run-of digit u) u
+
+piece-constant : (c : ℕ) (s : List ℕ) → T (digit c) → pointed s ≡ true → piece (c ∷ s) ≡ constant (c ∷ take (run-of digit s) s) (fraction s)
+unfolding numeral
+piece-constant c s t p = piece-numeral c s t ∙ rw p
 
 piece-other : (c : ℕ) (s : List ℕ) → space c ≡ false → starts (bytes "//") (c ∷ s) ≡ false → letter c ≡ false → digit c ≡ false → piece (c ∷ s) ≡ sign marks (c ∷ s)
 unfolding piece
@@ -145,7 +165,8 @@ data Sort : List ℕ → Type 0 where
   a-space : {c : ℕ} {s : List ℕ} → T (space c) → Sort (c ∷ s)
   a-comment : {s : List ℕ} → Sort (47 ∷ 47 ∷ s)
   a-word : {c : ℕ} {s : List ℕ} → T (letter c) → Sort (c ∷ s)
-  a-number : {c : ℕ} {s : List ℕ} → T (digit c) → Sort (c ∷ s)
+  a-number : {c : ℕ} {s : List ℕ} → T (digit c) → pointed s ≡ false → Sort (c ∷ s)
+  a-constant : {c : ℕ} {s : List ℕ} → T (digit c) → pointed s ≡ true → Sort (c ∷ s)
   a-sign : {c : ℕ} {s : List ℕ} → space c ≡ false → starts (bytes "//") (c ∷ s) ≡ false → letter c ≡ false → digit c ≡ false → Sort (c ∷ s)
 
 comment-sort : (c : ℕ) (s : List ℕ) → T (starts (bytes "//") (c ∷ s)) → Sort (c ∷ s)
@@ -157,14 +178,15 @@ comment-sort c (d ∷ s) t =
 
 sort : (s : List ℕ) → Sort s
 sort [] = no-more
-sort (c ∷ s) = go (space c) refl (starts (bytes "//") (c ∷ s)) refl (letter c) refl (digit c) refl
+sort (c ∷ s) = go (space c) refl (starts (bytes "//") (c ∷ s)) refl (letter c) refl (digit c) refl (pointed s) refl
   where
-    go : (a : Bool) → space c ≡ a → (b : Bool) → starts (bytes "//") (c ∷ s) ≡ b → (d : Bool) → letter c ≡ d → (e : Bool) → digit c ≡ e → Sort (c ∷ s)
-    go true x b y d z e w = a-space {c = c} (rw x tt)
-    go false x true y d z e w = comment-sort c s (rw y tt)
-    go false x false y true z e w = a-word {c = c} (rw z tt)
-    go false x false y false z true w = a-number {c = c} (rw w tt)
-    go false x false y false z false w = a-sign x y z w
+    go : (a : Bool) → space c ≡ a → (b : Bool) → starts (bytes "//") (c ∷ s) ≡ b → (d : Bool) → letter c ≡ d → (e : Bool) → digit c ≡ e → (f : Bool) → pointed s ≡ f → Sort (c ∷ s)
+    go true x b y d z e w f v = a-space {c = c} (rw x tt)
+    go false x true y d z e w f v = comment-sort c s (rw y tt)
+    go false x false y true z e w f v = a-word {c = c} (rw z tt)
+    go false x false y false z true w false v = a-number {c = c} (rw w tt) v
+    go false x false y false z true w true v = a-constant {c = c} (rw w tt) v
+    go false x false y false z false w f v = a-sign x y z w
 
 -- How many bytes a piece takes.
 abbrev pub Takes : Piece → ℕ → Type 0
@@ -185,11 +207,26 @@ word-takes x n h = go (lookup (λ r. equal (bytes r) x) words) (leb (length x) n
 
 digits-takes : (x : List ℕ) (n : ℕ) → Takes (digits x) n → length x ≡ n
 unfolding digits
-digits-takes x n h = go (good-number x) h
+digits-takes x n h = go (good-number number-limit x) h
   where
     go : (b : Bool) → Takes (if b then (λ _. token (the "number") (decimal 0 x) [] (length x)) else λ _. bad) n → length x ≡ n
     go true h = h
     go false h = absurd h
+
+-- A constant takes its whole number and two bytes more, and only a 0 stands behind its point.
+data Constants (x t : List ℕ) : Piece → Type 0 where
+  no-constant : Constants x t bad
+  of-float : {v : ℕ} → bytes "0" ≡ t → Constants x t (token (the "float number") v [] (length x + 2))
+
+constants : (x t : List ℕ) → Constants x t (constant x t)
+unfolding constant
+constants x t = go (good-number float-limit x) (equal (bytes "0") t) refl
+  where
+    go : (a b : Bool) → equal (bytes "0") t ≡ b
+        → Constants x t (if a && b then (λ _. token (the "float number") (whole-float (decimal 0 x)) [] (length x + 2)) else λ _. bad)
+    go true true z = of-float (equal-same (bytes "0") t z)
+    go true false z = no-constant
+    go false b z = no-constant
 
 -- Every sign has one byte or two.
 short : List (String × ℕ) → Bool
@@ -240,11 +277,24 @@ sign-second : (c d : ℕ) (s r : List ℕ) → sign marks (c ∷ d ∷ s) ≡ si
 unfolding sign marks numbered signs bytes starts
 sign-second c d s r = refl
 
+-- Of rests that begin alike both begin with a byte that is no digit, or neither does.
+near-starts : (d : ℕ) → T (not (digit d)) → {r r′ : List ℕ} → Near r r′ → starts (d ∷ []) r ≡ starts (d ∷ []) r′
+unfolding starts
+near-starts d h no-bytes = refl
+near-starts d h same-byte = refl
+near-starts d h (two-digits {c = c} {c′ = c′} t t′) = rw (digit-other c t d h, digit-other c′ t′ d h)
+
 near-equals : {r r′ : List ℕ} → Near r r′ → starts (bytes "=") r ≡ starts (bytes "=") r′
-unfolding starts bytes
-near-equals no-bytes = refl
-near-equals same-byte = refl
-near-equals (two-digits {c = c} {c′ = c′} t t′) = rw (digit-equals c t, digit-equals c′ t′)
+unfolding bytes digit
+near-equals near = near-starts 61 tt near
+
+pub near-point : {r r′ : List ℕ} → Near r r′ → starts (bytes ".") r ≡ starts (bytes ".") r′
+unfolding bytes digit
+near-point near = near-starts 46 tt near
+
+-- A test of digits stops at rests that begin alike.
+pub near-digits : {r r′ : List ℕ} → Near r r′ → Stops digit r → Stops digit r′
+near-digits near = near-stops digit (λ d d′ u u′. true-of (digit d) u ∙ sym (true-of (digit d′) u′)) near
 
 -- A piece of n bytes: it is the same before every rest that begins alike.
 pub record Whole (s : List ℕ) (n : ℕ) : Type 0 where
@@ -286,17 +336,74 @@ whole-word c s t = record {
   );
 }
 
-whole-number : (c : ℕ) (s : List ℕ) → T (digit c) → Whole (c ∷ s) (suc (run-of digit s))
-whole-number c s t = record {
+whole-number : (c : ℕ) (s : List ℕ) → T (digit c) → pointed s ≡ false → Whole (c ∷ s) (suc (run-of digit s))
+unfolding numeral
+whole-number c s t p = record {
   positive = omega arith;
   within = omega (arith, run-within digit s);
   before = λ r near. let m : ℕ = run-of digit s in rw (
-    piece-number c (take m s ++ r) t,
-    piece-number c s t,
-    run-before digit s r (near-stops digit (λ d d′ u u′. true-of (digit d) u ∙ sym (true-of (digit d′) u′)) near (run-stops digit s)),
+    piece-numeral c (take m s ++ r) t,
+    piece-number c s t p,
+    run-before digit s r (near-digits near (run-stops digit s)),
     take-at (take m s) r m (length-take-le m s (run-within digit s)),
+    drop-at (take m s) r m (length-take-le m s (run-within digit s)),
+    ← near-point near,
+    p,
   );
 }
+
+-- The bytes of a constant: its first digit c, the others, a point and the digit 0.
+abbrev written : ℕ → List ℕ → List ℕ
+written c s = c ∷ take (run-of digit s) s ++ (46 ∷ 48 ∷ [])
+
+piece-written : (c : ℕ) (s r : List ℕ) → T (digit c) → Stops digit r → piece (written c s ++ r) ≡ constant (c ∷ take (run-of digit s) s) (bytes "0")
+unfolding numeral starts bytes run-of digit
+piece-written c s r t h =
+    let m : ℕ = run-of digit s in
+    let u : List ℕ = 46 ∷ 48 ∷ r in
+    let y : length (take m s) ≡ m = run-length digit s in
+    rw (append-assoc (take m s) (46 ∷ 48 ∷ []) r, piece-numeral c (take m s ++ u) t, run-before digit s u tt, take-at (take m s) u m y, drop-at (take m s) u m y, run-none digit r h)
+
+-- Bytes z that are one piece before every rest that begins like r.
+whole-before : (z r : List ℕ) → 0 < length z → ((r′ : List ℕ) → Near r r′ → piece (z ++ r′) ≡ piece (z ++ r)) → Whole (z ++ r) (length z)
+whole-before z r positive same = record {
+  positive = positive;
+  within = omega (arith, length-append z r);
+  before = λ r′ near. rw (take-at z r (length z) refl) (same r′ (rw (drop-at z r (length z) refl) at near));
+}
+
+point-first : (u : List ℕ) → starts (bytes ".") u ≡ true → u ≡ 46 ∷ drop 1 u
+unfolding starts bytes
+point-first [] h = absurd (false≢true h)
+point-first (c ∷ u) h = ap (λ (c : ℕ). c ∷ u) (sym (eqb→eq 46 c (and-l (eqb 46 c) true (rw h tt))))
+
+module _ (c : ℕ) (s : List ℕ) (t : T (digit c)) (p : pointed s ≡ true) where
+  abbrev behind : List ℕ
+  behind = drop 1 (drop (run-of digit s) s)
+
+  abbrev rest : List ℕ
+  rest = drop (run-of digit behind) behind
+
+  split : bytes "0" ≡ fraction s → written c s ++ rest ≡ c ∷ s
+  unfolding bytes
+  split e =
+      let m : ℕ = run-of digit s in
+      let zero-first : 48 ∷ rest ≡ behind = ap (λ (l : List ℕ). l ++ rest) e ∙ take-append-drop (run-of digit behind) behind in
+      ap (λ (l : List ℕ). c ∷ l) (append-assoc (take m s) (46 ∷ 48 ∷ []) rest
+      ∙ ap (λ (l : List ℕ). take m s ++ (46 ∷ l)) zero-first
+      ∙ ap (λ (l : List ℕ). take m s ++ l) (sym (point-first (drop m s) p))
+      ∙ take-append-drop m s)
+
+  whole-constant : (n : ℕ) → Takes (piece (c ∷ s)) n → Whole (c ∷ s) n
+  whole-constant n h = go (constants (c ∷ take (run-of digit s) s) (fraction s)) (rw (piece-constant c s t p) at h)
+    where
+      go : {P : Piece} → Constants (c ∷ take (run-of digit s) s) (fraction s) P → Takes P n → Whole (c ∷ s) n
+      go no-constant h = absurd h
+      go (of-float e) h =
+          let stops : Stops digit rest = run-stops digit behind in
+          let size : length (written c s) ≡ n = omega (arith, length-append (take (run-of digit s) s) (46 ∷ 48 ∷ [])) in
+          subst (λ (n : ℕ). Whole (c ∷ s) n) size (subst (λ (l : List ℕ). Whole l (length (written c s))) (split e)
+          (whole-before (written c s) rest (omega arith) (λ r near. piece-written c s r t (near-digits near stops) ∙ sym (piece-written c s rest t stops))))
 
 module _ (c : ℕ) (a : space c ≡ false) (d : letter c ≡ false) (e : digit c ≡ false) where
   whole-first : (s : List ℕ) → starts (bytes "//") (c ∷ s) ≡ false → eqb 47 c ≡ false → Whole (c ∷ s) 1
@@ -336,17 +443,18 @@ whole-piece s n h = go (sort s) h
     go (a-word {c = c} {s = s} t) h =
         let e : suc (length (take (run-of letter-or-digit s) s)) ≡ n = word-takes (c ∷ take (run-of letter-or-digit s) s) n (rw (piece-word c s t) at h) in
         subst (λ (n : ℕ). Whole (c ∷ s) n) (ap suc (sym (length-take-le (run-of letter-or-digit s) s (run-within letter-or-digit s))) ∙ e) (whole-word c s t)
-    go (a-number {c = c} {s = s} t) h =
-        let e : suc (length (take (run-of digit s) s)) ≡ n = digits-takes (c ∷ take (run-of digit s) s) n (rw (piece-number c s t) at h) in
-        subst (λ (n : ℕ). Whole (c ∷ s) n) (ap suc (sym (length-take-le (run-of digit s) s (run-within digit s))) ∙ e) (whole-number c s t)
+    go (a-number {c = c} {s = s} t p) h =
+        let e : suc (length (take (run-of digit s) s)) ≡ n = digits-takes (c ∷ take (run-of digit s) s) n (rw (piece-number c s t p) at h) in
+        subst (λ (n : ℕ). Whole (c ∷ s) n) (ap suc (sym (length-take-le (run-of digit s) s (run-within digit s))) ∙ e) (whole-number c s t p)
+    go (a-constant {c = c} {s = s} t p) h = whole-constant c s t p n h
     go (a-sign {c = c} {s = s} a b d e) h = whole-sign c a d e s n b (rw (piece-other c s a b d e) at h)
 
--- A value above 1 is that of a number.
-pub record Number (s : List ℕ) (i : ℕ) (x : List ℕ) (n : ℕ) : Type 0 where
-  pub is-number : i ≡ the "number"
+-- A number above 1: its digits.
+pub record Number (s x : List ℕ) (n : ℕ) : Type 0 where
   pub unspelled : x ≡ []
   pub begins : (r : List ℕ) → Near s (49 ∷ r)
   pub stops : Stops digit (drop n s)
+  pub no-point : starts (bytes ".") (drop n s) ≡ false
 
 word-value : (x : List ℕ) (i v : ℕ) (y : List ℕ) (n : ℕ) → word x ≡ token i v y n → v ≡ 0
 unfolding word
@@ -366,26 +474,31 @@ sign-value ((r, k) ∷ l) s i v y n e = go (starts (bytes r) s) (sign-value l s 
     go true f e = cc
     go false f e = f e
 
-number-digits : (c : ℕ) (s : List ℕ) → T (digit c) → (i v : ℕ) (x : List ℕ) (n : ℕ) → digits (c ∷ take (run-of digit s) s) ≡ token i v x n → Number (c ∷ s) i x n
+number-digits : (c : ℕ) (s : List ℕ) → T (digit c) → pointed s ≡ false → (i v : ℕ) (x : List ℕ) (n : ℕ) → digits (c ∷ take (run-of digit s) s) ≡ token i v x n → Number (c ∷ s) x n
 unfolding digits digit
-number-digits c s t i v x n e = go (good-number y) e
+number-digits c s t p i v x n e = go (good-number number-limit y) e
   where
     y : List ℕ
     y = c ∷ take (run-of digit s) s
 
-    go : (b : Bool) → (if b then (λ _. token (the "number") (decimal 0 y) [] (length y)) else λ _. bad) ≡ token i v x n → Number (c ∷ s) i x n
+    go : (b : Bool) → (if b then (λ _. token (the "number") (decimal 0 y) [] (length y)) else λ _. bad) ≡ token i v x n → Number (c ∷ s) x n
     go true e =
         let size : suc (run-of digit s) ≡ n = ap suc (sym (length-take-le (run-of digit s) s (run-within digit s))) ∙ cc in
-        record { is-number = cc; unspelled = cc; begins = λ r. two-digits t tt; stops = subst (λ (n : ℕ). Stops digit (drop n (c ∷ s))) size (run-stops digit s) }
+        record { unspelled = cc; begins = λ r. two-digits t tt; stops = subst (λ (n : ℕ). Stops digit (drop n (c ∷ s))) size (run-stops digit s); no-point = rw (← size) p }
     go false e = let z : _≡_ {A = ℕ} 0 1 = cc in absurd (omega arith)
 
-pub number-piece : (s : List ℕ) (i v : ℕ) (x : List ℕ) (n : ℕ) → piece s ≡ token i v x n → 2 ≤ v → Number s i x n
-number-piece s i v x n e l = go (sort s) e
+constant-other : {x t : List ℕ} {P : Piece} → Constants x t P → {i v : ℕ} {y : List ℕ} {n : ℕ} → P ≡ token i v y n → i ≡ the "number" → ⊥
+constant-other no-constant e k = let z : _≡_ {A = ℕ} 0 1 = cc in omega arith
+constant-other (of-float _) e k = float-number-not-number cc
+
+pub number-piece : (s : List ℕ) (i v : ℕ) (x : List ℕ) (n : ℕ) → piece s ≡ token i v x n → i ≡ the "number" → 2 ≤ v → Number s x n
+number-piece s i v x n e k l = go (sort s) e
   where
-    go : {s : List ℕ} → Sort s → piece s ≡ token i v x n → Number s i x n
+    go : {s : List ℕ} → Sort s → piece s ≡ token i v x n → Number s x n
     go no-more e = let z : _≡_ {A = ℕ} 0 1 = cc piece-end in absurd (omega arith)
     go (a-space {c = c} {s = s} t) e = let z : _≡_ {A = ℕ} 0 1 = cc (piece-space c s t) in absurd (omega arith)
     go (a-comment {s = s}) e = let z : _≡_ {A = ℕ} 0 1 = cc (piece-comment s) in absurd (omega arith)
     go (a-word {c = c} {s = s} t) e = absurd (omega (arith, word-value (c ∷ take (run-of letter-or-digit s) s) i v x n (sym (piece-word c s t) ∙ e)))
-    go (a-number {c = c} {s = s} t) e = number-digits c s t i v x n (sym (piece-number c s t) ∙ e)
+    go (a-number {c = c} {s = s} t p) e = number-digits c s t p i v x n (sym (piece-number c s t p) ∙ e)
+    go (a-constant {c = c} {s = s} t p) e = absurd (constant-other (constants (c ∷ take (run-of digit s) s) (fraction s)) (sym (piece-constant c s t p) ∙ e) k)
     go (a-sign {c = c} {s = s} a b d f) e = absurd (omega (arith, sign-value marks (c ∷ s) i v x n (sym (piece-other c s a b d f) ∙ e)))

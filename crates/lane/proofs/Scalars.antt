@@ -9,7 +9,7 @@ use Prim.Native.String.{String}
 use lib.Dec.{T, eqb, T-not, not-T, eqb→eq}
 use lib.ListN.{length, getD}
 use Rattle.meaning.specs.declared.Kind.{Kind}
-use Rattle.meaning.specs.declared.Kind.the-variants.{Int as int, Bool as bool}
+use Rattle.meaning.specs.declared.Kind.the-variants.{Int as int, Bool as bool, Float as float}
 use Rattle.meaning.specs.declared.Refusal.the-variants.{NotAllowed}
 use Rattle.meaning.specs.Codes.{Out, ok, refused, Doing, after, _>>=_, _>>_, give, refuse, check, option, lookup, if_then_else_, _among_, nesting-limit}
 use Rattle.meaning.specs.Tokens.{Token, end-at, the, words, marks, numbered, reserved, signs}
@@ -111,11 +111,12 @@ module _ (ts : List Token) (free : (at : ℕ) → T (B.not (eqb ((getD ts at (en
       (good (λ t at. followed _ (k t at) (λ l p q. well (plain-braces q)))
       (good (plain-declaration r int)
       (good (plain-declaration r bool)
+      (good (plain-declaration r float)
       (good (plain-assignment r)
       (good (λ t at. gives-past (condition ts r at) _ (λ e p. followed _ (plain-opening deep h p) (λ s p q. gives-past (expect ts "else" p) _ (λ u p. followed _ (plain-opening deep h p) (λ s′ p q′. well (plain-if q q′))))))
       (good (λ t at. gives-past (condition ts r at) _ (λ e p. followed _ (plain-opening deep h p) (λ s p q. well (plain-while q))))
       (never refl
-      no-case))))))))
+      no-case)))))))))
 
   plain-statement : (r : ℕ) (at : ℕ) → Gives Plain (statement ts r at)
   unfolding statement no-room

@@ -6,17 +6,18 @@ use mathlib.Core.Option.{Option}
 use Prim.Native.Nat.{ℕ, zero, suc, _+_, _-_, _≤_, _<_}
 use native.Mathlib.Nat.{add-zero}
 use native.Mathlib.Omega.{arith}
-use lib.Dec.{leb, leb→le}
+use lib.Dec.{eqb, leb, eqb→eq, leb→le}
 use lib.ListN.{length, take, drop, replicate, length-append, length-drop, length-replicate}
 use lib.Seq.{length-take-le, drop-at, drop-drop, drop-append-add}
 use Rattle.meaning.specs.declared.Refusal.the-variants.{TextTooLong}
 use Rattle.meaning.specs.Codes.{Out, ok, refused, after, give, repeat, option, if_then_else_, text-limit, number-limit}
-use Rattle.meaning.specs.Tokens.{Token, end-at, the, space, digit, run-of, bytes, decimal, good-number, digits, Piece, over, bad, gap, token, piece, turn, tokens, lexed}
+use Rattle.meaning.specs.Tokens.{Token, end-at, the, space, digit, run-of, starts, bytes, decimal, good-number, digits, Piece, over, bad, gap, token, piece, turn, tokens, lexed}
+use Rattle.laws.proofs.The.{float-number-not-number}
 use Rattle.lane.specs.Narrow.{is-block, one-padded, narrow-piece, narrow-from, narrow}
 use Rattle.lane.specs.NarrowTree.{narrow-length, narrow-token, narrow-tokens}
-use Rattle.lane.proofs.Tests.{true-of}
+use Rattle.lane.proofs.Tests.{and-r, true-of, false-of}
 use Rattle.lane.proofs.Trees.{end-stays}
-use Rattle.lane.proofs.Pieces.{Near, no-bytes, same-byte, Stops, near-stops, run-none, piece-space, piece-number, Takes, Whole, whole-piece, Number, number-piece}
+use Rattle.lane.proofs.Pieces.{Near, no-bytes, same-byte, near-point, near-digits, Stops, run-none, piece-space, piece-number, Takes, Whole, whole-piece, Number, number-piece}
 
 -- From place p on the bytes s have the tokens ts, and end at q.
 data Lexes : ℕ → List ℕ → List Token → ℕ → Type 0 where
@@ -109,10 +110,21 @@ spaces-before {q} {ts} p (suc k) r t =
     let u : Lexes (p + suc (k + m)) (drop (k + m) (replicate k 32 ++ r)) ts q = rw (drop-spaces k m r, ← e) (after-spaces r t) in
     skips (piece-space 32 (replicate k 32 ++ r) tt) (subst (λ (n : ℕ). Lexes (p + suc n) (drop n (replicate k 32 ++ r)) ts q) (sym (run-of-spaces k r)) u)
 
--- A `1` that no digit follows.
-piece-one : (u : List ℕ) → Stops digit u → piece (49 ∷ u) ≡ token (the "number") 1 [] 1
+-- A `1` that neither a digit nor a point follows.
+piece-one : (u : List ℕ) → Stops digit u → starts (bytes ".") u ≡ false → piece (49 ∷ u) ≡ token (the "number") 1 [] 1
 unfolding digits good-number decimal digit
-piece-one u h = piece-number 49 u tt ∙ rw (run-none digit u h)
+piece-one u h p = piece-number 49 u tt (rw (run-none digit u h) p) ∙ rw (run-none digit u h)
+
+-- The N of a `block[N]` is a number.
+block-number : (j k i : ℕ) → is-block j k i ≡ true → i ≡ the "number"
+unfolding is-block
+block-number j k i e = eqb→eq i (the "number") (and-r (eqb j (the "block") && eqb k (the "[")) (eqb i (the "number")) (rw e tt))
+
+-- So a float's constant stays as it is written.
+pub constant-stays : (rest : ℕ → ℕ → List ℕ → List ℕ) (j k v : ℕ) (x : List ℕ) (n : ℕ) (s : List ℕ)
+    → narrow-piece rest j k (token (the "float number") v x n) s ≡ take n s ++ rest k (the "float number") (drop n s)
+unfolding narrow-piece
+constant-stays rest j k v x n s = rw (false-of (is-block j k (the "float number")) (λ t. float-number-not-number (block-number j k _ (true-of _ t))))
 
 -- The narrowed bytes begin alike, and are as many.
 near-self : (s : List ℕ) → Near s s
@@ -133,12 +145,12 @@ near-narrow (suc f) j k s = go (piece s) refl
     go over e = near-self s
     go bad e = near-self s
     go (gap n) e = near-take n s (narrow-from f j k (drop n s)) (gap-whole s n e .positive) (gap-whole s n e .within)
-    go (token i v x n) e = pick (is-block j k) (leb 2 v) refl
+    go (token i v x n) e = pick (is-block j k i) refl (leb 2 v) refl
       where
-        pick : (a b : Bool) → leb 2 v ≡ b → Near s ((if a && b then (λ _. one-padded n) else λ _. take n s) ++ narrow-from f k i (drop n s))
-        pick true true z = number-piece s i v x n e (leb→le 2 v (rw z tt)) .begins _
-        pick true false z = near-take n s (narrow-from f k i (drop n s)) (token-whole s i v x n e .positive) (token-whole s i v x n e .within)
-        pick false b z = near-take n s (narrow-from f k i (drop n s)) (token-whole s i v x n e .positive) (token-whole s i v x n e .within)
+        pick : (a : Bool) → is-block j k i ≡ a → (b : Bool) → leb 2 v ≡ b → Near s ((if a && b then (λ _. one-padded n) else λ _. take n s) ++ narrow-from f k i (drop n s))
+        pick true y true z = number-piece s i v x n e (block-number j k i y) (leb→le 2 v (rw z tt)) .begins _
+        pick true y false z = near-take n s (narrow-from f k i (drop n s)) (token-whole s i v x n e .positive) (token-whole s i v x n e .within)
+        pick false y b z = near-take n s (narrow-from f k i (drop n s)) (token-whole s i v x n e .positive) (token-whole s i v x n e .within)
 
 length-narrow-from : (f j k : ℕ) (s : List ℕ) → length (narrow-from f j k s) ≡ length s
 unfolding narrow-from narrow-piece one-padded
@@ -155,7 +167,7 @@ length-narrow-from (suc f) j k s = go (λ j k s. length-narrow-from f j k s) (pi
     go rest over e = refl
     go rest bad e = refl
     go rest (gap n) e = first n (narrow-from f j k (drop n s)) (gap-whole s n e .within) (rest j k (drop n s))
-    go rest (token i v x n) e = pick (is-block j k && leb 2 v)
+    go rest (token i v x n) e = pick (is-block j k i && leb 2 v)
       where
         pick : (b : Bool) → length ((if b then (λ _. one-padded n) else λ _. take n s) ++ narrow-from f k i (drop n s)) ≡ length s
         pick true = padded n (narrow-from f k i (drop n s)) (token-whole s i v x n e .positive) (token-whole s i v x n e .within) (rest k i (drop n s))
@@ -166,19 +178,23 @@ module _ (s : List ℕ) (n : ℕ) (w : Whole s n) (r : List ℕ) where
   rest-of : {p q : ℕ} {ts : List Token} → Lexes p r ts q → Lexes p (drop n (take n s ++ r)) ts q
   rest-of {p} {q} {ts} t = subst (λ (s : List ℕ). Lexes p s ts q) (sym (drop-at (take n s) r n (length-take-le n s (w .within)))) t
 
-  takes-one : {q : ℕ} {ts : List Token} (p i : ℕ) (x : List ℕ) → i ≡ the "number" → x ≡ [] → Stops digit r → Lexes (p + n) r ts q
+  takes-one : {q : ℕ} {ts : List Token} (p i : ℕ) (x : List ℕ) → i ≡ the "number" → x ≡ [] → Stops digit r → starts (bytes ".") r ≡ false → Lexes (p + n) r ts q
       → Lexes p (one-padded n ++ r) (record { is = i; place = p; value = 1; spelled = x } ∷ ts) q
-  unfolding one-padded digit
-  takes-one {q} {ts} p i x y z h t =
+  unfolding one-padded digit starts bytes
+  takes-one {q} {ts} p i x y z h g t =
       let e : p + n ≡ p + 1 + (n - 1) = omega (arith, w .positive) in
-      takes (piece-one (replicate (n - 1) 32 ++ r) (padded (n - 1)) ∙ ap₂ (λ (i : ℕ) (x : List ℕ). token i 1 x 1) (sym y) (sym z))
+      takes (piece-one (replicate (n - 1) 32 ++ r) (padded (n - 1)) (no-point (n - 1)) ∙ ap₂ (λ (i : ℕ) (x : List ℕ). token i 1 x 1) (sym y) (sym z))
       (spaces-before (p + 1) (n - 1) r (subst (λ (p : ℕ). Lexes p r ts q) e t))
     where
       padded : (m : ℕ) → Stops digit (replicate m 32 ++ r)
       padded zero = h
       padded (suc m) = tt
 
-narrow-token-is : (j k i p v : ℕ) (x : List ℕ) (a b : Bool) → is-block j k ≡ a → leb 2 v ≡ b
+      no-point : (m : ℕ) → starts (bytes ".") (replicate m 32 ++ r) ≡ false
+      no-point zero = g
+      no-point (suc m) = refl
+
+narrow-token-is : (j k i p v : ℕ) (x : List ℕ) (a b : Bool) → is-block j k i ≡ a → leb 2 v ≡ b
     → narrow-token j k (record { is = i; place = p; value = v; spelled = x }) ≡ record { is = i; place = p; value = if a && b then (λ _. 1) else λ _. v; spelled = x }
 unfolding narrow-token narrow-length
 narrow-token-is j k i p v x true true y z = rw (y, z)
@@ -197,7 +213,7 @@ lexes-narrow (skips {n = n} {s = s} e t) (suc f) j k l =
     rw e (skips (w .before r (near-narrow f j k (drop n s)) ∙ e) (rest-of s n w r (lexes-narrow t f j k (omega (arith, length-drop n s)))))
 lexes-narrow (takes {i = i} {v = v} {n = n} {x = x} {s = s} e t) zero j k l = absurd (omega (arith, token-whole s i v x n e .positive, token-whole s i v x n e .within))
 lexes-narrow (takes {p = p} {q = q} {i = i} {v = v} {n = n} {x = x} {s = s} {ts = ts} e t) (suc f) j k l =
-    rw e (go (is-block j k) refl (leb 2 v) refl (lexes-narrow t f k i (omega (arith, length-drop n s, token-whole s i v x n e .positive))))
+    rw e (go (is-block j k i) refl (leb 2 v) refl (lexes-narrow t f k i (omega (arith, length-drop n s, token-whole s i v x n e .positive))))
   where
     w : Whole s n
     w = token-whole s i v x n e
@@ -208,12 +224,13 @@ lexes-narrow (takes {p = p} {q = q} {i = i} {v = v} {n = n} {x = x} {s = s} {ts 
     near : Near (drop n s) r
     near = near-narrow f k i (drop n s)
 
-    go : (a : Bool) → is-block j k ≡ a → (b : Bool) → leb 2 v ≡ b → Lexes (p + n) r (narrow-tokens k i ts) q
+    go : (a : Bool) → is-block j k i ≡ a → (b : Bool) → leb 2 v ≡ b → Lexes (p + n) r (narrow-tokens k i ts) q
         → Lexes p ((if a && b then (λ _. one-padded n) else λ _. take n s) ++ r) (narrow-token j k (record { is = i; place = p; value = v; spelled = x }) ∷ narrow-tokens k i ts) q
     go true y true z u =
-        let m : Number s i x n = number-piece s i v x n e (leb→le 2 v (rw z tt)) in
+        let is : i ≡ the "number" = block-number j k i y in
+        let m : Number s x n = number-piece s i v x n e is (leb→le 2 v (rw z tt)) in
         rw (narrow-token-is j k i p v x true true y z)
-        (takes-one s n w r p i x (m .is-number) (m .unspelled) (near-stops digit (λ c c′ d d′. true-of (digit c) d ∙ sym (true-of (digit c′) d′)) near (m .stops)) u)
+        (takes-one s n w r p i x is (m .unspelled) (near-digits near (m .stops)) (sym (near-point near) ∙ m .no-point) u)
     go true y false z u = rw (narrow-token-is j k i p v x true false y z) (takes (w .before r near ∙ e) (rest-of s n w r u))
     go false y b z u = rw (narrow-token-is j k i p v x false b y z) (takes (w .before r near ∙ e) (rest-of s n w r u))
 

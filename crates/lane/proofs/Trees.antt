@@ -10,7 +10,7 @@ use native.Mathlib.Omega.{arith}
 use lib.Dec.{T, eqb, eqb→eq}
 use lib.ListN.{length, getD, List·getD-map}
 use Rattle.meaning.specs.declared.Kind.{Kind}
-use Rattle.meaning.specs.declared.Kind.the-variants.{Int as int, Bool as bool}
+use Rattle.meaning.specs.declared.Kind.the-variants.{Int as int, Bool as bool, Float as float}
 use Rattle.meaning.specs.declared.Refusal.the-variants.{NotAllowed}
 use Rattle.meaning.specs.Codes.{Out, _>>=_, _>>_, give, refuse, repeat, option, lookup, if_then_else_, _among_, nesting-limit}
 use Rattle.meaning.specs.Tokens.{Token, end-at, the, words, marks, numbered, reserved, signs}
@@ -18,7 +18,7 @@ use Rattle.meaning.specs.Tree as M
 use Rattle.meaning.specs.declared.Unary.the-variants.{Neg as neg, Inv as inv, Not as not}
 use Rattle.meaning.specs.declared.Binary.{Binary}
 use Rattle.meaning.specs.declared.Binary.the-variants.{Or as or, Xor as xor, And as and, Eq as eq, Ne as ne, Lt as lt, Gt as gt, Le as le, Ge as ge, Add as add, Sub as sub, Mul as mul}
-use Rattle.meaning.specs.Tree.{table, unary-table, levels, Expr, number, boolean, name, current-mask, unary, binary, Block, Stmt, empty, braces, declare, assign, if-else, while, scalar, Stmts, none-yet, _⨾_}
+use Rattle.meaning.specs.Tree.{table, unary-table, levels, Expr, number, float-number, boolean, name, current-mask, unary, binary, Block, Stmt, empty, braces, declare, assign, if-else, while, scalar, Stmts, none-yet, _⨾_}
 use Rattle.meaning.specs.Reading.{Reads, After, _⇒_, operator, begins, look, next, choose, expect, as-long, more, binaries, operand, no-room, closed, unaries, expression, parenthesised, block, declaration, assignment, condition, opening, another, sequence, statement-over, statement, read}
 use Rattle.laws.specs.Outcomes.{refusal, Beside}
 use Rattle.laws.proofs.Outcomes.{both-well, both-followed, both-weaker, both-passed}
@@ -29,7 +29,7 @@ use Rattle.lane.specs.NarrowTree.{narrow-length, narrow-token, narrow-to
 module _ (j k : ℕ) (t : Token) where
   same-is : (narrow-token j k t) .is ≡ t .is
   unfolding narrow-token
-  same-is = go (is-block j k)
+  same-is = go (is-block j k (t .is))
     where
       go : (b : Bool) → (if b then (λ _. record { is = t .is; place = t .place; value = narrow-length (t .value); spelled = t .spelled }) else λ _. t) .is ≡ t .is
       go true = refl
@@ -37,12 +37,12 @@ module _ (j k : ℕ) (t : Token) where
 
   same-token : T (B.not (eqb k (the "["))) → narrow-token j k t ≡ t
   unfolding narrow-token is-block
-  same-token h = go (eqb j (the "block")) (eqb k (the "[")) h
+  same-token h = go (eqb j (the "block")) (eqb k (the "[")) _ h
     where
-      go : (a b : Bool) → T (B.not b) → (if a && b then (λ _. record { is = t .is; place = t .place; value = narrow-length (t .value); spelled = t .spelled }) else λ _. t) ≡ t
-      go true true h = absurd h
-      go true false h = refl
-      go false b h = refl
+      go : (a b c : Bool) → T (B.not b) → (if a && b && c then (λ _. record { is = t .is; place = t .place; value = narrow-length (t .value); spelled = t .spelled }) else λ _. t) ≡ t
+      go true true c h = absurd h
+      go true false c h = refl
+      go false b c h = refl
 
 pub length-narrow-tokens : (j k : ℕ) (ts : List Token) → length (narrow-tokens j k ts) ≡ length ts
 unfolding narrow-tokens
@@ -52,7 +52,7 @@ length-narrow-tokens j k (t ∷ ts) = ap suc (length-narrow-tokens k (t .is) ts)
 -- The end of the text has no value to narrow.
 pub end-stays : (j k q : ℕ) → narrow-token j k (end-at q) ≡ end-at q
 unfolding narrow-token end-at narrow-length
-end-stays j k q = go (is-block j k)
+end-stays j k q = go (is-block j k (the "end"))
   where
     go : (b : Bool) → (if b then (λ _. record { is = the "end"; place = q; value = narrow-length 0; spelled = [] }) else λ _. end-at q) ≡ end-at q
     go true = refl
@@ -220,11 +220,12 @@ module _ (ts : List Token) where
       (case tt (λ t. reading-then (deep t) (deep′ t) _ _ (h t) (λ e. reading-give (λ e. e) (unary (t .place) inv e)))
       (case tt (λ t. reading-then (deep t) (deep′ t) _ _ (h t) (λ e. reading-give (λ e. e) (unary (t .place) not e)))
       (case tt (λ t. reading-give (λ e. e) (number (t .value)))
+      (case tt (λ t. reading-give (λ e. e) (float-number (t .value)))
       (case tt (λ t. reading-give (λ e. e) (boolean true))
       (case tt (λ t. reading-give (λ e. e) (boolean false))
       (case tt (λ t. reading-give (λ e. e) (name (t .place) (t .spelled)))
       (case tt (λ t. reading-give (λ e. e) current-mask)
-      (case tt k no-case)))))))))
+      (case tt k no-case))))))))))
 
   reading-no-room : {A : Type 0} (g : A → A) (t : Token) → Reading g (no-room ts t) (no-room thin t)
   unfolding no-room
@@ -270,10 +271,10 @@ module _ (ts : List Token) where
       go false e = refusal tt
 
   -- N in `block[N]` is narrowed.
-  block-at : (at : ℕ) → (full-at at) .is ≡ the "block" → (full-at (suc at)) .is ≡ the "["
+  block-at : (at : ℕ) → (full-at at) .is ≡ the "block" → (full-at (suc at)) .is ≡ the "[" → (full-at (suc (suc at))) .is ≡ the "number"
       → thin-at (suc (suc at)) ≡ record { is = (full-at (suc (suc at))) .is; place = (full-at (suc (suc at))) .place; value = narrow-length ((full-at (suc (suc at))) .value); spelled = (full-at (suc (suc at))) .spelled }
   unfolding narrow-token is-block the words marks numbered reserved signs
-  block-at at e e′ = narrow-at (the "end") (the "end") ts (suc (suc at)) ∙ rw (kind-before at, kind-before (suc at), e, e′)
+  block-at at e e′ e″ = narrow-at (the "end") (the "end") ts (suc (suc at)) ∙ rw (kind-before at, kind-before (suc at), e, e′, e″)
 
   reading-block : Reading narrow-block (block ts) (block thin)
   unfolding block look next narrow-block
@@ -288,7 +289,7 @@ module _ (ts : List Token) where
           both-followed _ _ (reading-taken "[" (suc at))
           (λ t p t′ p′ q. rw (q .past, q .past′) (both-followed _ _ (reading-taken "number" (suc (suc at)))
           (λ n p n′ p′ r. rw (r .past, r .past′) (both-followed _ _ (reading-taken "]" (suc (suc (suc at))))
-          (λ u p u′ p′ w. let v : _≡_ {A = Block} (some (n′ .value, n′ .place)) (narrow-block (some (n .value, n .place))) = rw (r .this′, block-at at e₀ (q .sort), r .this) in
+          (λ u p u′ p′ w. let v : _≡_ {A = Block} (some (n′ .value, n′ .place)) (narrow-block (some (n .value, n .place))) = rw (r .this′, block-at at e₀ (q .sort) (r .sort), r .this) in
           let z : Clear (suc (suc (suc (suc at)))) = rw (w .sort) bracket-closes in
           rw (w .past, w .past′) (both-well (record { value = v; place = refl; clear = z })))))))
       go false e = both-well (record { value = refl; place = refl; clear = c })
@@ -348,6 +349,7 @@ module _ (ts : List Token) where
       (case tt (λ t. reading-then (braced t) (braced′ t) _ _ (k t) (λ l. reading-give narrow-stmt (braces (t .place) l)))
       (case tt (reading-declaration r int)
       (case tt (reading-declaration r bool)
+      (case tt (reading-declaration r float)
       (case tt (reading-assignment r)
       (case tt (λ t. reading-then (condition ts r) (condition thin r) _ _ (reading-condition r)
       (λ e. reading-then (opening ts deep) (opening thin deep′) _ _ (reading-opening deep deep′ h)
@@ -358,7 +360,7 @@ module _ (ts : List Token) where
       (λ e. reading-then (opening ts deep) (opening thin deep′) _ _ (reading-opening deep deep′ h)
       (λ s. reading-give narrow-stmt (while (t .place) e s))))
       (case tt (λ t. reading-then (opening ts deep) (opening thin deep′) _ _ (reading-opening deep deep′ h) (λ s. reading-give narrow-stmt (scalar (t .place) s)))
-      no-case))))))))
+      no-case)))))))))
 
   reading-statement : (r : ℕ) → Statements (statement ts r) (statement thin r)
   unfolding statement the words marks numbered reserved signs

@@ -10,7 +10,7 @@ use Rattle.meaning.specs.declared.Kind.{Kind}
 use Rattle.meaning.specs.declared.Kind.the-variants.{Bool as bool}
 use Rattle.meaning.specs.declared.Refusal.the-variants.{AlreadyOpen, LengthNotListed, WrongKind, WrongLength, LengthOneTarget, TooManyDeclarations}
 use Rattle.meaning.specs.Codes.{Out, after, give, option, _among_, lengths, declaration-limit}
-use Rattle.meaning.specs.Tree.{Name, same-kind, _one-of_, table, unary-table, Expr, number, boolean, name, current-mask, unary, binary, Block, Stmt, empty, braces, declare, assign, if-else, while, scalar, Stmts, none-yet, _⨾_}
+use Rattle.meaning.specs.Tree.{Name, same-kind, _one-of_, table, unary-table, Expr, number, float-number, boolean, name, current-mask, unary, binary, Block, Stmt, empty, braces, declare, assign, if-else, while, scalar, Stmts, none-yet, _⨾_}
 use Rattle.meaning.specs.Program.{variable, one, two, Program, step, put, both, choice, cycle, alone}
 use Rattle.meaning.specs.Memory.{Declared, Declarations, declared}
 use Rattle.meaning.specs.Typing.{Typed, accepts, gives-kind, match, joined, fits, find, variable-named, typed, typed-condition, storable, with-one, declare-name, good-block, lanes-or, typed-declaration, scope, typed-statement, typed-statements, typed-program}
@@ -52,6 +52,7 @@ module _ (Γ Δ : Declarations) (thin : Each Thinned Γ Δ) (C : ℕ) where
   typed-both : (e : Expr) → Beside Alike (typed C e Γ) (typed 1 e Δ)
   unfolding typed match joined
   typed-both (number n) = both-well (record { still = refl; still′ = refl; code = refl; kind = refl; one-lane = refl })
+  typed-both (float-number n) = both-well (record { still = refl; still′ = refl; code = refl; kind = refl; one-lane = refl })
   typed-both (boolean b) = both-well (record { still = refl; still′ = refl; code = refl; kind = refl; one-lane = refl })
   typed-both (name p x) = both-followed _ _ (named-both p x) (λ v Γ′ v′ Δ′ q. both-well (record {
     still = q .still;

@@ -8,9 +8,9 @@ use lib.ListN.{length, take, drop, replicate}
 use Rattle.meaning.specs.Codes.{if_then_else_}
 use Rattle.meaning.specs.Tokens.{the, Piece, over, bad, gap, token, piece}
 
--- Is what follows the tokens j and k the N of a `block[N]`?
-unfoldable pub is-block : ℕ → ℕ → Bool
-is-block j k = eqb j (the "block") && eqb k (the "[")
+-- Is the token i, after the tokens j and k, the N of a `block[N]`?
+unfoldable pub is-block : ℕ → ℕ → ℕ → Bool
+is-block j k i = eqb j (the "block") && eqb k (the "[") && eqb i (the "number")
 
 -- A `1` in the place of n digits, and spaces.
 unfoldable pub one-padded : ℕ → List ℕ
@@ -21,7 +21,7 @@ unfoldable pub narrow-piece : (ℕ → ℕ → List ℕ → List ℕ) → ℕ �
 narrow-piece rest j k over s = s
 narrow-piece rest j k bad s = s
 narrow-piece rest j k (gap n) s = take n s ++ rest j k (drop n s)
-narrow-piece rest j k (token i v x n) s = (if is-block j k && leb 2 v then (λ _. one-padded n) else λ _. take n s) ++ rest k i (drop n s)
+narrow-piece rest j k (token i v x n) s = (if is-block j k i && leb 2 v then (λ _. one-padded n) else λ _. take n s) ++ rest k i (drop n s)
 
 -- The first f pieces of some bytes.
 unfoldable pub narrow-from : ℕ → ℕ → ℕ → List ℕ → List ℕ

@@ -20,7 +20,7 @@ narrow-length n = if leb 2 n then (λ _. 1) else λ _. n
 
 -- A token after the tokens j and k, and some tokens after them.
 unfoldable pub narrow-token : ℕ → ℕ → Token → Token
-narrow-token j k t = if is-block j k then (λ _. record { is = t .is; place = t .place; value = narrow-length (t .value); spelled = t .spelled }) else λ _. t
+narrow-token j k t = if is-block j k (t .is) then (λ _. record { is = t .is; place = t .place; value = narrow-length (t .value); spelled = t .spelled }) else λ _. t
 
 unfoldable pub narrow-tokens : ℕ → ℕ → List Token → List Token
 narrow-tokens j k [] = []

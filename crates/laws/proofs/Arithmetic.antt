@@ -11,7 +11,7 @@ use lib.Dec.{eqb}
 use lib.ListN.{length, getD, length-map, length-replicate, getD-replicate}
 use borrow.Author.Tests.{eqb-true, eqb-false}
 use Rattle.meaning.specs.declared.Kind.{Kind}
-use Rattle.meaning.specs.declared.Kind.the-variants.{Int as int, Bool as bool}
+use Rattle.meaning.specs.declared.Kind.the-variants.{Int as int, Bool as bool, Float as float}
 use Rattle.meaning.specs.declared.Unary.{Unary}
 use Rattle.meaning.specs.declared.Unary.the-variants.{Neg as neg, Inv as inv, Not as not}
 use Rattle.meaning.specs.declared.Binary.{Binary}
@@ -20,12 +20,12 @@ use Rattle.meaning.specs.Codes.{ok}
 use Rattle.meaning.specs.Tree.{kind-number, same-kind, _one-of_, table, unary-table}
 use Rattle.meaning.specs.Program.{Code, Program}
 use Rattle.meaning.specs.Memory.{Memory, Value, Mask, Declarations, size, bit, truth, number-of, lane-of, load, spread}
-use Rattle.meaning.specs.Running.{word-unary, word-binary, unary-of, binary-of, lanewise, value}
+use Rattle.meaning.specs.Running.{word-unary, word-binary, float-unary, float-binary, unary-of, binary-of, lanewise, value}
 use Rattle.meaning.specs.Services.{judged, evaluate}
-use Rattle.laws.specs.Lengths.{Kinded, kinded-number, kinded-truth, kinded-variable, kinded-mask, kinded-one, kinded-two}
+use Rattle.laws.specs.Lengths.{Kinded, kinded-number, kinded-float, kinded-truth, kinded-variable, kinded-mask, kinded-one, kinded-two}
 use Rattle.laws.specs.Values.{All, lane-bits, Lanes, Bytes, Every}
-use Rattle.laws.specs.Arithmetic.{Says, Gives-one, negative, complement, opposite, Gives-two, sum, difference, product, below, above, at-most, at-least, equal, unequal, bits-or, bits-xor, bits-and, truths-or, truths-xor, truths-and, truths-equal, truths-unequal, Read-by-truth, lane, Lane-by-lane, Lanes-by-lane, Reckoned, reckoned-constant, reckoned-variable, reckoned-mask, reckoned-one, reckoned-two, Reckons}
-use Rattle.laws.proofs.Lists.{all-at}
+use Rattle.laws.specs.Arithmetic.{Says, Gives-one, negative, complement, opposite, Gives-two, sum, difference, product, below, above, at-most, at-least, equal, unequal, bits-or, bits-xor, bits-and, truths-or, truths-xor, truths-and, truths-equal, truths-unequal, negated-single, single-sum, single-difference, single-product, single-below, single-above, single-at-most, single-at-least, single-equal, single-unequal, Read-by-truth, lane, Lane-by-lane, Lanes-by-lane, Reckoned, reckoned-constant, reckoned-variable, reckoned-mask, reckoned-one, reckoned-two, Reckons}
+use Rattle.laws.proofs.Lists.{all-at, map-at}
 use Rattle.laws.proofs.Values.{length-lanewise, all-spread, evaluate-lanes, fits-every}
 use Rattle.laws.proofs.Accepted.{accepted-ready}
 use Rattle.laws.proofs.Signed.{negative-kept, sum-kept, difference-kept, product-kept, says, says-not, less-says, not-less-says, equal-says, unequal-says}
@@ -56,16 +56,26 @@ module _ (a b : ℕ) (bit-a : a < 2 ^ 1) (bit-b : b < 2 ^ 1) where
 
 -- What each operator gives, of lanes of a kind that it takes.
 pub one-lane : (k : Kind) (o : Unary) (a : ℕ) → k one-of (unary-table o) .1 ≡ true → a < 2 ^ lane-bits k → Gives-one k o a (unary-of k o a)
-unfolding unary-table _one-of_ same-kind kind-number unary-of word-unary lane-bits bit truth
+unfolding unary-table _one-of_ same-kind kind-number unary-of word-unary float-unary lane-bits bit truth
 one-lane int neg a t h = negative (negative-kept a h)
 one-lane int inv a t h = complement (complement-bits a h)
 one-lane int not a t h = absurd (false≢true t)
 one-lane bool neg a t h = absurd (false≢true t)
 one-lane bool inv a t h = absurd (false≢true t)
 one-lane bool not a t h = opposite (by-bit (λ a. 1 - a ≡ bit (B.not (truth a))) refl refl a h)
+one-lane float neg a t h = negated-single refl
+one-lane float inv a t h = absurd (false≢true t)
+one-lane float not a t h = absurd (false≢true t)
+
+-- A truth as a lane says that it is one.
+plain-says : (b : Bool) → Says (b ≡ true) (bit b)
+plain-says b = says b (λ e. e) (λ e t. false≢true (sym e ∙ t))
+
+plain-says-not : (b : Bool) → Says (b ≡ true → ⊥) (bit (B.not b))
+plain-says-not b = says-not b (λ e. e) (λ e t. false≢true (sym e ∙ t))
 
 pub two-lanes : (k : Kind) (o : Binary) (a b : ℕ) → k one-of (table o) .1 ≡ true → a < 2 ^ lane-bits k → b < 2 ^ lane-bits k → Gives-two k o a b (binary-of k o a b)
-unfolding table _one-of_ same-kind kind-number binary-of word-binary lane-bits bit truth B.xor
+unfolding table _one-of_ same-kind kind-number binary-of word-binary float-binary lane-bits bit truth B.xor
 two-lanes int or a b t h g = bits-or (λ i _. or-bit a b i)
 two-lanes int xor a b t h g = bits-xor (λ i _. xor-bit a b i)
 two-lanes int and a b t h g = bits-and (λ i _. and-bit a b i)
@@ -90,6 +100,18 @@ two-lanes bool ge a b t h g = absurd (false≢true t)
 two-lanes bool add a b t h g = absurd (false≢true t)
 two-lanes bool sub a b t h g = absurd (false≢true t)
 two-lanes bool mul a b t h g = absurd (false≢true t)
+two-lanes float or a b t h g = absurd (false≢true t)
+two-lanes float xor a b t h g = absurd (false≢true t)
+two-lanes float and a b t h g = absurd (false≢true t)
+two-lanes float eq a b t h g = single-equal (plain-says _)
+two-lanes float ne a b t h g = single-unequal (plain-says-not _)
+two-lanes float lt a b t h g = single-below (plain-says _)
+two-lanes float gt a b t h g = single-above (plain-says _)
+two-lanes float le a b t h g = single-at-most (plain-says _)
+two-lanes float ge a b t h g = single-at-least (plain-says _)
+two-lanes float add a b t h g = single-sum refl
+two-lanes float sub a b t h g = single-difference refl
+two-lanes float mul a b t h g = single-product refl
 
 -- Lane i of a value, and of one that is spread.
 lane-at : (v : Value) (i : ℕ) → i < length v → lane v i ≡ getD v i 0
@@ -105,12 +127,7 @@ lane-spread n [] i h = refl
 lane-spread n (x ∷ []) i h = getD-replicate n i x 0 (omega (arith, length-replicate n x))
 lane-spread n (x ∷ y ∷ v) i h = refl
 
--- Lane i of what is made of one value, and of two.
-map-at : (f : ℕ → ℕ) (v : Value) (i : ℕ) → i < length v → getD (map f v) i 0 ≡ f (getD v i 0)
-map-at f [] i h = absurd (omega arith)
-map-at f (x ∷ v) zero h = refl
-map-at f (x ∷ v) (suc i) h = map-at f v i (omega arith)
-
+-- Lane i of what is made of two values.
 record Zipped (f : ℕ → ℕ → ℕ) (u v : Value) (i : ℕ) : Type 0 where
   left : i < length u
   right : i < length v
@@ -130,7 +147,7 @@ each-lane {P} {R} f gives {v} all = record { as-long = length-map v f; each = go
     go : (i : ℕ) → i < length (map f v) → R (lane v i) (lane (map f v) i)
     go i h =
         let inside : i < length v = omega (arith, length-map v f) in
-        rw (lane-at (map f v) i h, map-at f v i inside, lane-at v i inside) (gives (getD v i 0) (all-at all i 0 inside))
+        rw (lane-at (map f v) i h, map-at f v i 0 inside, lane-at v i inside) (gives (getD v i 0) (all-at all i 0 inside))
 
 pub each-lanes : {P : ℕ → Type 0} {R : ℕ → ℕ → ℕ → Type 0} (f : ℕ → ℕ → ℕ) → ((a b : ℕ) → P a → P b → R a b (f a b)) → {u v : Value} → All P u → All P v
     → Lanes-by-lane R u v (lanewise f u v)
@@ -156,6 +173,7 @@ module _ {Γ : Declarations} (M : Memory) (m : Mask) (bytes : Bytes M) where
   reckoned : {k : Kind} {e : Code} → Kinded Γ k e → Reckoned (λ e. evaluate Γ M e m) e
   unfolding evaluate value
   reckoned (kinded-number l) = reckoned-constant
+  reckoned (kinded-float l) = reckoned-constant
   reckoned (kinded-truth b) = reckoned-constant
   reckoned (kinded-variable l) = reckoned-variable
   reckoned kinded-mask = reckoned-mask

@@ -11,7 +11,7 @@ use lib.ListN.{length, length-append, List·getD-append}
 use lib.Seq.{getD-at}
 use borrow.Author.Tests.{eqb-true}
 use Rattle.meaning.specs.declared.Kind.{Kind}
-use Rattle.meaning.specs.declared.Kind.the-variants.{Int as int, Bool as bool}
+use Rattle.meaning.specs.declared.Kind.the-variants.{Int as int, Bool as bool, Float as float}
 use Rattle.meaning.specs.Codes.{lengths, declaration-limit}
 use Rattle.meaning.specs.Tree.{Name}
 use Rattle.meaning.specs.Memory.{Declared, Declarations, declared, whole, size, next-multiple, need}
@@ -48,24 +48,31 @@ record Rounded (end l w : ℕ) : Type 0 where
 
 rounded : (k : Kind) (n end l : ℕ) → Listed n → end ≤ whole-limit * l → Rounded end l (whole k n)
 unfolding next-multiple whole size
-rounded int n end l h e =
-    by-length (λ n. Rounded end l (whole int n)) n h
-    (record { after = omega arith; before = omega arith })
-    (record { after = omega arith; before = omega arith })
-    (record { after = omega arith; before = omega arith })
-    (record { after = omega arith; before = omega arith })
-    (record { after = omega arith; before = omega arith })
-    (record { after = omega arith; before = omega arith })
-    (record { after = omega arith; before = omega arith })
-rounded bool n end l h e =
-    by-length (λ n. Rounded end l (whole bool n)) n h
-    (record { after = omega arith; before = omega arith })
-    (record { after = omega arith; before = omega arith })
-    (record { after = omega arith; before = omega arith })
-    (record { after = omega arith; before = omega arith })
-    (record { after = omega arith; before = omega arith })
-    (record { after = omega arith; before = omega arith })
-    (record { after = omega arith; before = omega arith })
+rounded k n end l h e = by-size k
+  where
+    four : Rounded end l (n * 4)
+    four =
+        by-length (λ n. Rounded end l (n * 4)) n h
+        (record { after = omega arith; before = omega arith })
+        (record { after = omega arith; before = omega arith })
+        (record { after = omega arith; before = omega arith })
+        (record { after = omega arith; before = omega arith })
+        (record { after = omega arith; before = omega arith })
+        (record { after = omega arith; before = omega arith })
+        (record { after = omega arith; before = omega arith })
+
+    by-size : (k : Kind) → Rounded end l (whole k n)
+    by-size int = four
+    by-size bool =
+        by-length (λ n. Rounded end l (whole bool n)) n h
+        (record { after = omega arith; before = omega arith })
+        (record { after = omega arith; before = omega arith })
+        (record { after = omega arith; before = omega arith })
+        (record { after = omega arith; before = omega arith })
+        (record { after = omega arith; before = omega arith })
+        (record { after = omega arith; before = omega arith })
+        (record { after = omega arith; before = omega arith })
+    by-size float = four
 
 -- "the next multiple": a multiple, at or behind the end, and the least such.
 module _ (end size : ℕ) (some : 0 < size) where

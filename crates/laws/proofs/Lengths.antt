@@ -12,7 +12,7 @@ use Rattle.meaning.specs.Memory.{Declarations}
 use Rattle.meaning.specs.Typing.{match, joined, fits, width}
 use Rattle.laws.specs.Sound.{Numbers, of-constant, of-variable, of-the-mask, of-one, of-two}
 use Rattle.laws.specs.Declarations.{Grows}
-use Rattle.laws.specs.Lengths.{Spreadable, single, full, Match, equal, left, right, Suits, one-lane, same, anywhere, Matched, matched-constant, matched-variable, matched-mask, matched-one, matched-two, Kinded, kinded-number, kinded-truth, kinded-variable, kinded-mask, kinded-one, kinded-two, Typed-as, Fits, fits-nothing, fits-step, fits-put, fits-both, fits-choice, fits-cycle, fits-alone}
+use Rattle.laws.specs.Lengths.{Spreadable, single, full, Match, equal, left, right, Suits, one-lane, same, anywhere, Matched, matched-constant, matched-variable, matched-mask, matched-one, matched-two, Kinded, kinded-number, kinded-float, kinded-truth, kinded-variable, kinded-mask, kinded-one, kinded-two, Typed-as, Fits, fits-nothing, fits-step, fits-put, fits-both, fits-choice, fits-cycle, fits-alone}
 use Rattle.laws.proofs.Tests.{or-cases, by-if}
 
 -- The tests of typing as facts.
@@ -113,6 +113,7 @@ module _ {Γ Δ : Declarations} (g : Grows Γ Δ) where
 
   pub kinded-grows : {k : Kind} {e : Code} → Kinded Γ k e → Kinded Δ k e
   kinded-grows (kinded-number l) = kinded-number l
+  kinded-grows (kinded-float l) = kinded-float l
   kinded-grows (kinded-truth b) = kinded-truth b
   kinded-grows (kinded-variable {x = x} h) = rw (← g .kinds x h) (kinded-variable {x = x} (omega (arith, g .longer)))
   kinded-grows kinded-mask = kinded-mask

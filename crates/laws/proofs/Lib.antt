@@ -12,7 +12,10 @@ pub mod Lengths
 pub mod Sound
 pub mod Typing
 pub mod Accepted
+pub mod Arms
 pub mod Lists
+pub mod Making
+pub mod Floats
 pub mod Values
 pub mod Running
 pub mod Budget

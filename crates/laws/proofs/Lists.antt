@@ -1,5 +1,5 @@
 -- What holds of each element of a list holds of each element of its parts, of two lists together, and of what is made of each.
-use Prim.Native.Nat.{ℕ, zero, suc, _<_}
+use Prim.Native.Nat.{ℕ, zero, suc, _<_, min}
 use mathlib.Core.Path.{_≡_, refl}
 use mathlib.Core.List.{List, [], _∷_, _++_, map, zipWith}
 use native.Mathlib.Omega.{arith}
@@ -50,3 +50,22 @@ module _ {A B : Type 0} {P : A → Type 0} {Q : B → Type 0} where
   all-zip f h no-more b = no-more
   all-zip f h (and-one p a) no-more = no-more
   all-zip f h (and-one {x = x} p a) (and-one {x = y} q b) = and-one (h x y p q) (all-zip f h a b)
+
+-- Elements and lengths of lists that are made from lists, element by element.
+pub length-zip : {A B D : Type 0} (f : A → B → D) (u : List A) (v : List B) → length (zipWith f u v) ≡ min (length u) (length v)
+unfolding zipWith
+length-zip f [] v = omega arith
+length-zip f (x ∷ u) [] = omega arith
+length-zip f (x ∷ u) (y ∷ v) = omega (arith, length-zip f u v)
+
+pub zip-at : (f : ℕ → ℕ → ℕ) (u v : List ℕ) (i : ℕ) → i < length u → i < length v → getD (zipWith f u v) i 0 ≡ f (getD u i 0) (getD v i 0)
+unfolding zipWith
+zip-at f [] v i h l = absurd (omega arith)
+zip-at f (x ∷ u) [] i h l = absurd (omega arith)
+zip-at f (x ∷ u) (y ∷ v) zero h l = refl
+zip-at f (x ∷ u) (y ∷ v) (suc i) h l = zip-at f u v i (omega arith) (omega arith)
+
+pub map-at : {A : Type 0} (f : A → ℕ) (l : List A) (i : ℕ) (d : A) → i < length l → getD (map f l) i 0 ≡ f (getD l i d)
+map-at f [] i d h = absurd (omega arith)
+map-at f (x ∷ l) zero d h = refl
+map-at f (x ∷ l) (suc i) d h = map-at f l i d (omega arith)

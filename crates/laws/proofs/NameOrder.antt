@@ -142,6 +142,7 @@ module _ (text : List ℕ) (ts : List Token) (spelled : All-in text 0 ts) where
         (case (λ _. on (followed _ (inside (here p) (suc p)) (λ l q h. well {s = q} (rises-braces h))))
         (case (λ _. on (declaration-rises r (suc p) _ (here p) low (omega arith)))
         (case (λ _. on (declaration-rises r (suc p) _ (here p) low (omega arith)))
+        (case (λ _. on (declaration-rises r (suc p) _ (here p) low (omega arith)))
         (case (λ _. on (assignment-rises r (suc p) (here p) low))
         (case (λ _. on (
         followed _ (goes-on (condition-gives text ts spelled r low .at (suc p))) (λ e q l.
@@ -152,7 +153,7 @@ module _ (text : List ℕ) (ts : List Token) (spelled : All-in text 0 ts) where
         followed _ (goes-on (condition-gives text ts spelled r low .at (suc p))) (λ e q l.
         followed _ (part q) (λ a u h. well {s = u} (rises-while (wider l (le-refl u) h))))))
         (case (λ _. on (followed _ (part (suc p)) (λ a u h. well {s = u} (rises-scalar h))))
-        none-left))))))))
+        none-left)))))))))
 
   statement-rises : (r : ℕ) → r ≤ nesting-limit → Gives (statement ts r)
   unfolding statement no-room

@@ -15,7 +15,7 @@ use Rattle.meaning.specs.declared.Kind.the-variants.{Bool as bool}
 use Rattle.meaning.specs.declared.Refusal.the-variants.{UnknownName, AlreadyOpen, LengthNotListed, WrongKind, WrongLength, LengthOneTarget, TooManyDeclarations}
 use Rattle.meaning.specs.Codes.{Out, ok, after, give, refuse, option, check, _among_, declaration-limit, lengths}
 use Rattle.meaning.specs.Tokens.{Token, end-at, the, tokens}
-use Rattle.meaning.specs.Tree.{Name, same-kind, _one-of_, table, unary-table, Expr, number, boolean, name, current-mask, unary, binary, Block, Stmt, empty, braces, declare, assign, if-else, while, scalar, Stmts, none-yet, _⨾_}
+use Rattle.meaning.specs.Tree.{Name, same-kind, _one-of_, table, unary-table, Expr, number, float-number, boolean, name, current-mask, unary, binary, Block, Stmt, empty, braces, declare, assign, if-else, while, scalar, Stmts, none-yet, _⨾_}
 use Rattle.meaning.specs.Reading.{read}
 use Rattle.meaning.specs.Program.{Program}
 use Rattle.meaning.specs.Memory.{Declared, Declarations, declared, whole, next-multiple, need}
@@ -46,6 +46,7 @@ named-stays C p x Γ = go (find x 0 Γ)
 typed-stays : (C : ℕ) (e : Expr) (Γ : Declarations) → Stays Γ (typed C e Γ)
 unfolding typed
 typed-stays C (number n) Γ = still tt
+typed-stays C (float-number n) Γ = still tt
 typed-stays C (boolean b) Γ = still tt
 typed-stays C (name p x) Γ = keeping _ (named-stays C p x Γ) (λ v _. still tt)
 typed-stays C current-mask Γ = still tt

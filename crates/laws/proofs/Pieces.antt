@@ -3,18 +3,19 @@ use mathlib.Core.Path.{_≡_, refl, sym}
 use mathlib.Core.Bool.{Bool, true, false, _&&_, _||_, not, false≢true}
 use mathlib.Core.List.{List, [], _∷_}
 use mathlib.Core.Option.{Option, none, some}
-use Prim.Native.Nat.{ℕ, suc, _≤_, _<_}
+use Prim.Native.Nat.{ℕ, suc, _+_, _^_, _≤_, _<_}
 use Prim.Native.String.{String}
 use native.Mathlib.Omega.{arith}
 use lib.Dec.{eqb, leb}
-use lib.ListN.{length, getD, take}
+use lib.ListN.{length, getD, take, drop, length-take, length-drop}
 use lib.Seq.{length-take-le}
 use borrow.Author.Tests.{leb-true, eqb-true}
-use Rattle.meaning.specs.Codes.{if_then_else_, option, lookup, name-limit, number-limit}
-use Rattle.meaning.specs.Tokens.{Piece, over, bad, gap, token, the, bytes, equal, reserved, signs, numbered, words, marks, space, digit, letter, letter-or-digit, in-line, run-of, starts, decimal, good-number, word, digits, sign, piece}
+use Rattle.meaning.specs.Codes.{if_then_else_, option, lookup, name-limit, number-limit, float-limit}
+use Rattle.meaning.specs.Tokens.{Piece, over, bad, gap, token, the, bytes, equal, reserved, signs, numbered, words, marks, space, digit, letter, letter-or-digit, in-line, run-of, starts, decimal, good-number, word, digits, constant, numeral, sign, piece}
 use Rattle.laws.proofs.Tests.{and-l, and-r, by-if}
 use Rattle.laws.proofs.Bytes.{run-within, run-length, run-some}
-use Rattle.laws.proofs.The.{the-end, the-number, the-name, number-not-end, name-not-end, number-not-name}
+use Rattle.laws.proofs.The.{the-end, the-number, the-name, the-float-number, number-not-end, name-not-end, number-not-name, float-number-not-end, float-number-not-number, float-number-not-name}
+use Rattle.laws.proofs.Floats.{whole-storable}
 
 -- What is found in a numbered list has a number of the list.
 pub lookup-from : (f : String → Bool) (l : List String) (n : ℕ) {k : ℕ} → lookup f (numbered n l) ≡ some k → n ≤ k
@@ -54,7 +55,7 @@ unfolding piece
 at-word {s = []} p h = absurd (omega (arith, p .some-bytes))
 at-word {s = c ∷ s} p h = rw (p .no-space, p .no-comment, h)
 
-pub at-number : {s : List ℕ} → Plain s → letter (getD s 0 0) ≡ false → digit (getD s 0 0) ≡ true → piece s ≡ digits (take (run-of digit s) s)
+pub at-number : {s : List ℕ} → Plain s → letter (getD s 0 0) ≡ false → digit (getD s 0 0) ≡ true → piece s ≡ numeral (take (run-of digit s) s) (drop (run-of digit s) s)
 unfolding piece
 at-number {s = []} p h i = absurd (omega (arith, p .some-bytes))
 at-number {s = c ∷ s} p h i = rw (p .no-space, p .no-comment, h, i)
@@ -74,6 +75,7 @@ pub record Taken (s : List ℕ) (k v : ℕ) (x : List ℕ) (n : ℕ) : Type 0 wh
   pub within : n ≤ length s
   pub not-end : k ≡ the "end" → ⊥
   pub number : k ≡ the "number" → v ≤ number-limit
+  pub float : k ≡ the "float number" → v < 2 ^ 32
   pub name : k ≡ the "name" → (x ≡ take n s) × (length x ≡ n)
 
 -- What holds of the piece that s starts with.
@@ -83,7 +85,7 @@ pub data Fair (s : List ℕ) : Piece → Type 0 where
   between : {n : ℕ} → 0 < n → n ≤ length s → Fair s (gap n)
   taken : {k v n : ℕ} {x : List ℕ} → Taken s k v x n → Fair s (token k v x n)
 
--- A word or a sign: its number is none of the first three.
+-- A word or a sign: its number is none of the first four.
 fixed : {s : List ℕ} {k n : ℕ} → 16 ≤ k → 0 < n → n ≤ length s → Fair s (token k 0 [] n)
 fixed {s} {k} {n} le lt in′ =
     taken (record {
@@ -91,6 +93,7 @@ fixed {s} {k} {n} le lt in′ =
       within = in′;
       not-end = λ (e : k ≡ the "end"). omega (arith, the-end);
       number = λ (e : k ≡ the "number"). absurd (omega (arith, the-number));
+      float = λ (e : k ≡ the "float number"). absurd (omega (arith, the-float-number));
       name = λ (e : k ≡ the "name"). absurd (omega (arith, the-name));
     })
 
@@ -108,6 +111,7 @@ module _ (s : List ℕ) (n : ℕ) (lt : 0 < n) (le : n ≤ length s) where
             within = le;
             not-end = name-not-end;
             number = λ e. absurd (number-not-name (sym e));
+            float = λ e. absurd (float-number-not-name (sym e));
             name = λ _. (refl, is);
           })))
           (λ _. wrong)
@@ -124,9 +128,37 @@ module _ (s : List ℕ) (n : ℕ) (lt : 0 < n) (le : n ≤ length s) where
         within = le;
         not-end = number-not-end;
         number = λ _. leb-true (decimal 0 x) number-limit (and-l (leb (decimal 0 x) number-limit) _ h);
+        float = λ e. absurd (float-number-not-number (sym e));
         name = λ e. absurd (number-not-name e);
       })))
       (λ _. wrong)
+
+  -- Behind the digits of a constant there are a point and a digit.
+  two-more : (m : ℕ) → starts (bytes ".") (drop n s) ≡ true → equal (bytes "0") (take m (drop 1 (drop n s))) ≡ true → n + 2 ≤ length s
+  unfolding bytes equal
+  two-more m h e =
+      let one = eqb-true 1 (length (take m (drop 1 (drop n s)))) (and-l (eqb 1 (length (take m (drop 1 (drop n s))))) _ e) in
+      omega (arith, length-take m (drop 1 (drop n s)), length-drop 1 (drop n s), length-drop n s)
+
+  fair-constant : (m : ℕ) → starts (bytes ".") (drop n s) ≡ true → Fair s (constant (take n s) (take m (drop 1 (drop n s))))
+  unfolding constant
+  fair-constant m h =
+      let is = length-take-le n s le in
+      let x = take n s in
+      by-if (Fair s) (good-number float-limit x && equal (bytes "0") (take m (drop 1 (drop n s)))) _ _
+      (λ e. rw is (taken {n = n + 2} (record {
+        some-bytes = omega arith;
+        within = two-more m h (and-r (good-number float-limit x) _ e);
+        not-end = float-number-not-end;
+        number = λ e. absurd (float-number-not-number e);
+        float = λ _. whole-storable (decimal 0 x) .fits;
+        name = λ e. absurd (float-number-not-name e);
+      })))
+      (λ _. wrong)
+
+  fair-numeral : Fair s (numeral (take n s) (drop n s))
+  unfolding numeral
+  fair-numeral = by-if (Fair s) (starts (bytes ".") (drop n s)) _ _ (λ h. fair-constant (run-of digit (drop 1 (drop n s))) h) (λ _. fair-digits)
 
 starts-within : (e s : List ℕ) → starts e s ≡ true → length e ≤ length s
 unfolding starts
@@ -168,5 +200,5 @@ fair (c ∷ s) =
     by-if (Fair t) (space c) _ _ (λ h. between (run-some space c s h) (run-within space t)) (λ _.
     by-if (Fair t) (starts (bytes "//") t) _ _ (λ h. between (comment-some t h) (run-within in-line t)) (λ _.
     by-if (Fair t) (letter c) _ _ (λ h. fair-word t (run-of letter-or-digit t) (letter-some c s h) (run-within letter-or-digit t)) (λ _.
-    by-if (Fair t) (digit c) _ _ (λ h. fair-digits t (run-of digit t) (run-some digit c s h) (run-within digit t)) (λ _.
+    by-if (Fair t) (digit c) _ _ (λ h. fair-numeral t (run-of digit t) (run-some digit c s h) (run-within digit t)) (λ _.
     fair-sign t))))

@@ -1,6 +1,6 @@
 -- A tree that is read can be gone through: at most 32 levels, at most 232 values on the stack, its names, places and numbers those of the
 -- text; and a refusal is at a place of the text.
-use Prim.Native.Nat.{ℕ, zero, suc, _+_, _*_, _≤_, _<_}
+use Prim.Native.Nat.{ℕ, zero, suc, _+_, _*_, _^_, _≤_, _<_}
 use Prim.Native.String.{String}
 use mathlib.Core.Path.{_≡_, refl, sym, _∙_}
 use mathlib.Core.Bool.{Bool, true, false}
@@ -20,11 +20,11 @@ use Rattle.meaning.specs.Tokens.{Token, end-at, the}
 use Rattle.meaning.specs.Tree.{kinds, levels, Expr, unary, binary, Block, Stmt, braces, if-else, while, scalar, Stmts, none-yet, _⨾_}
 use Rattle.meaning.specs.Reading.{Reads, After, _⇒_, operator, look, next, choose, expect, as-long, more, binaries, operand, no-room, closed, unaries, expression, parenthesised, block, declaration, assignment, condition, opening, another, sequence, statement-over, statement, read, begins}
 use Rattle.laws.specs.Outcomes.{Ends, well, refusal, Refused-in}
-use Rattle.laws.specs.Sound.{Spelled, stack, stack-limit, In-text, of-number, of-boolean, of-name, of-mask, of-unary, of-binary, Sound, Placed, no-block, at-place, no-value, a-value, Walkable, of-empty, of-braces, of-declare, of-assign, of-if, of-while, of-scalar, All-walkable, of-none, of-more}
+use Rattle.laws.specs.Sound.{Spelled, stack, stack-limit, In-text, of-number, of-float, of-boolean, of-name, of-mask, of-unary, of-binary, Sound, Placed, no-block, at-place, no-value, a-value, Walkable, of-empty, of-braces, of-declare, of-assign, of-if, of-while, of-scalar, All-walkable, of-none, of-more}
 use Rattle.laws.specs.Tokens.{All-in}
 use Rattle.laws.proofs.Outcomes.{followed, weaker, passed, repeated, said}
 use Rattle.laws.proofs.The.{the-end, the-number, the-becomes}
-use Rattle.laws.proofs.Tokens.{spelled-later, spelled-place, spelled-number, spelled-name}
+use Rattle.laws.proofs.Tokens.{spelled-later, spelled-place, spelled-number, spelled-float, spelled-name}
 
 module _ (text : List ℕ) (ts : List Token) (spelled : All-in text 0 ts) where
   -- A place of the text, or its end.
@@ -61,6 +61,7 @@ module _ (text : List ℕ) (ts : List Token) (spelled : All-in text 0 ts) where
     near : Near (t .place)
     later : (k ≡ the "end" → ⊥) → at ≤ t .place
     small : k ≡ the "number" → t .value ≤ number-limit
+    float : k ≡ the "float number" → t .value < 2 ^ 32
     named : k ≡ the "name" → Spelled text (t .place) (t .spelled)
 
   seen-at : (at k : ℕ) → (here at) .is ≡ k → Seen k at (here at)
@@ -68,6 +69,7 @@ module _ (text : List ℕ) (ts : List Token) (spelled : All-in text 0 ts) where
     near = spelled-place at spelled;
     later = λ h. omega (arith, spelled-later at spelled (λ g. h (sym e ∙ g)));
     small = λ h. spelled-number at spelled (e ∙ h);
+    float = λ h. spelled-float at spelled (e ∙ h);
     named = λ h. spelled-name at spelled (e ∙ h);
   }
 
@@ -172,12 +174,13 @@ module _ (text : List ℕ) (ts : List Token) (spelled : All-in text 0 ts) where
           (case (λ t s. negated inv at t (s .near))
           (case (λ t s. negated not at t (s .near))
           (case (λ t s. leaf _ (of-number (s .small refl)) refl at)
+          (case (λ t s. leaf _ (of-float (s .float refl)) refl at)
           (case (λ t s. leaf _ of-boolean refl at)
           (case (λ t s. leaf _ of-boolean refl at)
           (case (λ t s. leaf _ (of-name (s .named refl)) refl at)
           (case (λ t s. leaf _ of-mask refl at)
           (case (λ t s. past (inside t (s .near) .at (suc at)))
-          none-left)))))))));
+          none-left))))))))));
     }
 
   closed-gives : {Q : Expr → Type 0} {m : Reads Expr} (t : Token) → Gives Q m → Gives Q (closed ts m t)
@@ -284,6 +287,7 @@ module _ (text : List ℕ) (ts : List Token) (spelled : All-in text 0 ts) where
           (case (λ t s. past (next-act _ (inside t (s .near) .at (suc p)) (λ l q _ h. given q (some-braces _ l h))))
           (case (λ t s. past (declaration-goes r n (suc p) _ t (s .near) (omega arith) low))
           (case (λ t s. past (declaration-goes r n (suc p) _ t (s .near) (omega arith) low))
+          (case (λ t s. past (declaration-goes r n (suc p) _ t (s .near) (omega arith) low))
           (case (λ t s. past (assignment-goes r n (suc p) t (s .named refl) low))
           (case (λ t s. past (
           next-act _ (condition-gives r low .at (suc p)) (λ e q _ he.
@@ -294,7 +298,7 @@ module _ (text : List ℕ) (ts : List Token) (spelled : All-in text 0 ts) where
           next-act _ (condition-gives r low .at (suc p)) (λ e q _ he.
           next-act _ (part .at q) (λ a u _ ha. given u (a-while _ e a (s .near) he ha)))))
           (case (λ t s. past (next-act _ (part .at (suc p)) (λ a u _ ha. given u (a-scalar _ a ha))))
-          none-left))))))));
+          none-left)))))))));
     }
 
   statement-gives : (r : ℕ) → r ≤ nesting-limit → Gives (Walkable text r) (statement ts r)

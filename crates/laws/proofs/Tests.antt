@@ -1,6 +1,6 @@
 -- What a test says of its parts, and what holds of a choice.
 use mathlib.Core.Path.{_≡_, refl, sym}
-use mathlib.Core.Bool.{Bool, true, false, _&&_, _||_, false≢true}
+use mathlib.Core.Bool.{Bool, true, false, _&&_, _||_, cond, false≢true}
 use Rattle.meaning.specs.Codes.{if_then_else_}
 
 pub and-l : (a b : Bool) → (a && b) ≡ true → a ≡ true
@@ -27,6 +27,15 @@ any-of-four false false false false = refl
 pub by-if : {A : Type 0} (P : A → Type 0) (b : Bool) (x y : Unit {0} → A) → (b ≡ true → P (x tt)) → (b ≡ false → P (y tt)) → P (if b then x else y)
 by-if P true x y f g = f refl
 by-if P false x y f g = g refl
+
+pub by-cond : {A : Type 0} (P : A → Type 0) (b : Bool) {x y : A} → (b ≡ true → P x) → (b ≡ false → P y) → P (cond b x y)
+by-cond P true f g = f refl
+by-cond P false f g = g refl
+
+-- A test passes or fails.
+pub by-test : {X : Type 0} (b : Bool) → (b ≡ true → X) → (b ≡ false → X) → X
+by-test true f g = f refl
+by-test false f g = g refl
 
 pub or-cases : {X : Type 0} (a b : Bool) → (a || b) ≡ true → (a ≡ true → X) → (b ≡ true → X) → X
 or-cases true b h f g = f refl

@@ -15,6 +15,10 @@ pub the-name : the "name" ≡ 2
 unfolding the words marks numbered reserved signs
 the-name = refl
 
+pub the-float-number : the "float number" ≡ 3
+unfolding the words marks numbered reserved signs
+the-float-number = refl
+
 pub the-int : the "int" ≡ 16
 unfolding the words marks numbered reserved signs
 the-int = refl
@@ -54,6 +58,10 @@ the-true = refl
 pub the-false : the "false" ≡ 25
 unfolding the words marks numbered reserved signs
 the-false = refl
+
+pub the-float : the "float" ≡ 26
+unfolding the words marks numbered reserved signs
+the-float = refl
 
 pub the-equal : the "==" ≡ 48
 unfolding the words marks numbered reserved signs
@@ -143,12 +151,21 @@ pub the-not : the "!" ≡ 69
 unfolding the words marks numbered reserved signs
 the-not = refl
 
--- The three that are no word and no sign differ.
+-- The four that are no word and no sign differ.
 pub number-not-end : the "number" ≡ the "end" → ⊥
 number-not-end e = omega (arith, the-number, the-end)
 
 pub name-not-end : the "name" ≡ the "end" → ⊥
 name-not-end e = omega (arith, the-name, the-end)
+
+pub float-number-not-end : the "float number" ≡ the "end" → ⊥
+float-number-not-end e = omega (arith, the-float-number, the-end)
+
+pub float-number-not-number : the "float number" ≡ the "number" → ⊥
+float-number-not-number e = omega (arith, the-float-number, the-number)
+
+pub float-number-not-name : the "float number" ≡ the "name" → ⊥
+float-number-not-name e = omega (arith, the-float-number, the-name)
 
 pub number-not-name : the "number" ≡ the "name" → ⊥
 number-not-name e = omega (arith, the-number, the-name)

@@ -1,7 +1,7 @@
 -- What a later stage may rely on of the tokens of a text: names are spelled in it, numbers are small, and the end comes last.
 use mathlib.Core.Path.{_≡_, refl, sym, _∙_}
 use mathlib.Core.List.{List, [], _∷_, _++_}
-use Prim.Native.Nat.{ℕ, zero, suc, _+_, _-_, _≤_, _<_}
+use Prim.Native.Nat.{ℕ, zero, suc, _+_, _-_, _^_, _≤_, _<_}
 use native.Mathlib.Omega.{arith}
 use lib.ListN.{length, getD, drop, length-append, length-drop}
 use lib.Dec.{leb}
@@ -14,7 +14,7 @@ use Rattle.laws.specs.Sound.{Spelled}
 use Rattle.laws.specs.Tokens.{TokenIn, All-in, the-last, one-more, Accepted}
 use Rattle.laws.proofs.Outcomes.{said}
 use Rattle.laws.proofs.Tests.{by-if}
-use Rattle.laws.proofs.The.{number-not-end, name-not-end}
+use Rattle.laws.proofs.The.{number-not-end, float-number-not-end, name-not-end}
 use Rattle.laws.proofs.Pieces.{Taken, Fair, nothing, wrong, between, taken, fair}
 use Rattle.laws.proofs.Turns.{tokens-from, from-start, turn-over, turn-bad, turn-gap, turn-token}
 
@@ -41,6 +41,7 @@ token-in {text} {x} {p} {k} {v} {n} le t =
       inside = omega arith;
       not-end = t .not-end;
       number = t .number;
+      float = t .float;
       name = λ e.
           let x-is = t .name e .0 in
           let x-long : length x ≡ n = t .name e .1 in
@@ -124,6 +125,9 @@ module _ {text : List ℕ} where
 
   pub spelled-number : {k : ℕ} {ts : List Token} (i : ℕ) → All-in text k ts → getD ts i (end-at 0) .is ≡ the "number" → getD ts i (end-at 0) .value ≤ number-limit
   spelled-number i s e = spelled-is i s (λ q. number-not-end (sym e ∙ q)) .number e
+
+  pub spelled-float : {k : ℕ} {ts : List Token} (i : ℕ) → All-in text k ts → getD ts i (end-at 0) .is ≡ the "float number" → getD ts i (end-at 0) .value < 2 ^ 32
+  spelled-float i s e = spelled-is i s (λ q. float-number-not-end (sym e ∙ q)) .float e
 
   -- Each place is inside the text or at its end.
   pub spelled-place : {k : ℕ} {ts : List Token} (i : ℕ) → All-in text k ts → getD ts i (end-at 0) .place ≤ length text

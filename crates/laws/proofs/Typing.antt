@@ -10,18 +10,18 @@ use lib.Dec.{eqb, ltb}
 use lib.ListN.{length}
 use borrow.Author.Tests.{ltb-true}
 use Rattle.meaning.specs.declared.Kind.{Kind}
-use Rattle.meaning.specs.declared.Kind.the-variants.{Int as int, Bool as bool}
+use Rattle.meaning.specs.declared.Kind.the-variants.{Int as int, Bool as bool, Float as float}
 use Rattle.meaning.specs.declared.Refusal.the-variants.{UnknownName, WrongLength, WrongKind, AlreadyOpen, TooManyDeclarations, LengthNotListed, LengthOneTarget}
 use Rattle.meaning.specs.Codes.{Out, after, give, refuse, check, option, if_then_else_, _among_, lengths, nesting-limit, declaration-limit, the-judge-gives, only-a-run-gives}
 use Rattle.meaning.specs.Tokens.{equal}
-use Rattle.meaning.specs.Tree.{Name, kind-number, same-kind, _one-of_, table, unary-table, Expr, number, boolean, name, current-mask, unary, binary, Block, Stmt, empty, braces, declare, assign, if-else, while, scalar, Stmts, none-yet, _⨾_}
+use Rattle.meaning.specs.Tree.{Name, kind-number, same-kind, _one-of_, table, unary-table, Expr, number, float-number, boolean, name, current-mask, unary, binary, Block, Stmt, empty, braces, declare, assign, if-else, while, scalar, Stmts, none-yet, _⨾_}
 use Rattle.meaning.specs.Program.{Program, put}
 use Rattle.meaning.specs.Memory.{Declared, Declarations, declared, whole, next-multiple, need}
 use Rattle.meaning.specs.Typing.{Types, Typed, accepts, match, joined, fits, find, variable-named, typed, width, typed-condition, storable, with-one, declare-name, good-block, lanes-or, typed-declaration, scope, typed-statement, typed-statements, typed-program}
 use Rattle.laws.specs.Outcomes.{Ends, well, refusal, Still, Refused-in}
-use Rattle.laws.specs.Sound.{Spelled, stack, In-text, of-number, of-boolean, of-name, of-mask, of-unary, of-binary, Sound, Placed, no-block, at-place, Valued, no-value, a-value, Walkable, of-empty, of-braces, of-declare, of-assign, of-if, of-while, of-scalar, All-walkable, of-none, of-more, code-stack, Able, Runnable, of-nothing, of-step, of-put, of-both, of-choice, of-cycle, of-alone}
+use Rattle.laws.specs.Sound.{Spelled, stack, In-text, of-number, of-float, of-boolean, of-name, of-mask, of-unary, of-binary, Sound, Placed, no-block, at-place, Valued, no-value, a-value, Walkable, of-empty, of-braces, of-declare, of-assign, of-if, of-while, of-scalar, All-walkable, of-none, of-more, code-stack, Able, Runnable, of-nothing, of-step, of-put, of-both, of-choice, of-cycle, of-alone}
 use Rattle.laws.specs.Declarations.{Listed, Ordered, Grows}
-use Rattle.laws.specs.Lengths.{Spreadable, Suits, matched-constant, matched-variable, matched-mask, matched-one, matched-two, kinded-number, kinded-truth, kinded-variable, kinded-mask, kinded-one, kinded-two, Typed-as, Fits, fits-nothing, fits-step, fits-put, fits-both, fits-choice, fits-cycle, fits-alone}
+use Rattle.laws.specs.Lengths.{Spreadable, Suits, matched-constant, matched-variable, matched-mask, matched-one, matched-two, kinded-number, kinded-float, kinded-truth, kinded-variable, kinded-mask, kinded-one, kinded-two, Typed-as, Fits, fits-nothing, fits-step, fits-put, fits-both, fits-choice, fits-cycle, fits-alone}
 use Rattle.laws.specs.Accepted.{Ready}
 use Rattle.laws.specs.Near.{Near-program, near-nothing, near-step, near-put, near-both, near-choice, near-cycle, near-alone}
 use Rattle.laws.proofs.Outcomes.{still, followed, keeping, weaker, checked, passed}
@@ -42,8 +42,13 @@ pub same-kind-is : (k l : Kind) → same-kind k l ≡ true → k ≡ l
 unfolding same-kind kind-number
 same-kind-is int int h = refl
 same-kind-is int bool h = absurd (false≢true h)
+same-kind-is int float h = absurd (false≢true h)
 same-kind-is bool int h = absurd (false≢true h)
 same-kind-is bool bool h = refl
+same-kind-is bool float h = absurd (false≢true h)
+same-kind-is float int h = absurd (false≢true h)
+same-kind-is float bool h = absurd (false≢true h)
+same-kind-is float float h = refl
 
 -- A name that is found is one of the declarations.
 pub found-below : (x : Name) (k : ℕ) (Γ : Declarations) (i : ℕ) → find x k Γ ≡ some i → i < k + length Γ
@@ -91,6 +96,7 @@ module _ (text : List ℕ) where
     typed-goes : (e : Expr) → In-text text e → Goes (Still Γ (Well Γ C e)) (typed C e Γ)
     unfolding typed accepts code-stack stack width the-judge-gives only-a-run-gives
     typed-goes (number n) (of-number l) = still (record { alike = refl; listed = listed-one; typed = record { kinded = kinded-number l; matched = matched-constant }; wide = refl })
+    typed-goes (float-number n) (of-float l) = still (record { alike = refl; listed = listed-one; typed = record { kinded = kinded-float l; matched = matched-constant }; wide = refl })
     typed-goes (boolean b) of-boolean = still (record { alike = refl; listed = listed-one; typed = record { kinded = kinded-truth b; matched = matched-constant }; wide = refl })
     typed-goes (name p x) (of-name s) =
         keeping _ (named-goes C p x Γ (omega (arith, s .inside))) (λ v h.

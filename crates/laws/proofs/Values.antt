@@ -9,7 +9,7 @@ use native.Mathlib.Nat.{mod-lt, pow-suc, one-le-pow}
 use lib.Bits.{or-lt, xor-lt, and-lt}
 use lib.ListN.{length, take, drop, length-map, length-replicate}
 use Rattle.meaning.specs.declared.Kind.{Kind}
-use Rattle.meaning.specs.declared.Kind.the-variants.{Int as int, Bool as bool}
+use Rattle.meaning.specs.declared.Kind.the-variants.{Int as int, Bool as bool, Float as float}
 use Rattle.meaning.specs.declared.Unary.{Unary}
 use Rattle.meaning.specs.declared.Unary.the-variants.{Neg as neg, Inv as inv, Not as not}
 use Rattle.meaning.specs.declared.Binary.{Binary}
@@ -17,12 +17,14 @@ use Rattle.meaning.specs.declared.Binary.the-variants.{Or as or, Xor as xor, An
 use Rattle.meaning.specs.Tree.{kind-number, same-kind, _one-of_, table, unary-table}
 use Rattle.meaning.specs.Program.{Code, Program}
 use Rattle.meaning.specs.Memory.{Memory, Value, Mask, Declarations, declared, size, bit, truth, true-byte, bool-byte, whole, little-endian, number-of, lane-of, bytes-of, load, store, spread, fetch, update}
-use Rattle.meaning.specs.Running.{word, word-unary, word-binary, unary-of, binary-of, lanewise, value, mask-and, mask-and-not, Event, passes, stores}
+use Rattle.meaning.specs.Floats.{one-nan}
+use Rattle.meaning.specs.Running.{word, word-unary, word-binary, float-unary, float-binary, unary-of, binary-of, lanewise, value, mask-and, mask-and-not, Event, passes, stores}
 use Rattle.meaning.specs.Typing.{joined, gives-kind, width}
 use Rattle.meaning.specs.Services.{evaluate, effect}
-use Rattle.laws.specs.Lengths.{Spreadable, single, full, Match, equal, left, right, Matched, matched-constant, matched-variable, matched-mask, matched-one, matched-two, Kinded, kinded-number, kinded-truth, kinded-variable, kinded-mask, kinded-one, kinded-two, Typed-as, Fits, fits-nothing, fits-step, fits-put, fits-both, fits-choice, fits-cycle, fits-alone}
+use Rattle.laws.specs.Lengths.{Spreadable, single, full, Match, equal, left, right, Matched, matched-constant, matched-variable, matched-mask, matched-one, matched-two, Kinded, kinded-number, kinded-float, kinded-truth, kinded-variable, kinded-mask, kinded-one, kinded-two, Typed-as, Fits, fits-nothing, fits-step, fits-put, fits-both, fits-choice, fits-cycle, fits-alone}
 use Rattle.laws.specs.Values.{All, no-more, and-one, lane-bits, Lanes, Bytes, Every, every-nothing, every-step, every-put, every-both, every-choice, every-cycle, every-alone}
 use Rattle.laws.proofs.Lengths.{joined-one, joined-same, joined-right}
+use Rattle.laws.proofs.Floats.{plus-storable, negated-storable, minus-storable, times-storable}
 use Rattle.laws.proofs.Lists.{all-take, all-drop, all-append, all-replicate, all-map, all-zip}
 
 -- The length of a value that is spread.
@@ -118,16 +120,19 @@ word-low n = mod-lt n (omega arith)
 
 -- An operator gives lanes of the kind that it gives, from lanes of a kind that it takes.
 pub unary-low : (k : Kind) (o : Unary) (a : ℕ) → k one-of (unary-table o) .1 ≡ true → a < 2 ^ lane-bits k → unary-of k o a < 2 ^ lane-bits k
-unfolding unary-table _one-of_ same-kind kind-number unary-of word-unary lane-bits
+unfolding unary-table _one-of_ same-kind kind-number unary-of word-unary float-unary lane-bits
 unary-low int neg a t h = word-low _
 unary-low int inv a t h = omega arith
 unary-low int not a t h = absurd (false≢true t)
 unary-low bool neg a t h = absurd (false≢true t)
 unary-low bool inv a t h = absurd (false≢true t)
 unary-low bool not a t h = omega arith
+unary-low float neg a t h = negated-storable a .fits
+unary-low float inv a t h = absurd (false≢true t)
+unary-low float not a t h = absurd (false≢true t)
 
 pub binary-low : (k : Kind) (o : Binary) (a b : ℕ) → k one-of (table o) .1 ≡ true → a < 2 ^ lane-bits k → b < 2 ^ lane-bits k → binary-of k o a b < 2 ^ lane-bits (gives-kind ((table o) .2) k)
-unfolding table _one-of_ same-kind kind-number binary-of word-binary gives-kind lane-bits
+unfolding table _one-of_ same-kind kind-number binary-of word-binary float-binary gives-kind lane-bits
 binary-low int or a b t h g = or-lt 32 a b h g
 binary-low int xor a b t h g = xor-lt 32 a b h g
 binary-low int and a b t h g = and-lt 32 a b h g
@@ -152,6 +157,18 @@ binary-low bool ge a b t h g = absurd (false≢true t)
 binary-low bool add a b t h g = absurd (false≢true t)
 binary-low bool sub a b t h g = absurd (false≢true t)
 binary-low bool mul a b t h g = absurd (false≢true t)
+binary-low float or a b t h g = absurd (false≢true t)
+binary-low float xor a b t h g = absurd (false≢true t)
+binary-low float and a b t h g = absurd (false≢true t)
+binary-low float eq a b t h g = bit-low _
+binary-low float ne a b t h g = bit-low _
+binary-low float lt a b t h g = bit-low _
+binary-low float gt a b t h g = bit-low _
+binary-low float le a b t h g = bit-low _
+binary-low float ge a b t h g = bit-low _
+binary-low float add a b t h g = plus-storable a b .fits
+binary-low float sub a b t h g = minus-storable a b .fits
+binary-low float mul a b t h g = times-storable a b .fits
 
 all-bits : (m : Mask) → Lanes bool (map bit m)
 unfolding lane-bits
@@ -163,6 +180,7 @@ module _ {Γ : Declarations} (m : Mask) (ρ : ℕ → Value) (lanes : (x : ℕ) 
   pub value-lanes : {k : Kind} {e : Code} → Kinded Γ k e → Lanes k (value e m ρ)
   unfolding value lanewise lane-bits
   value-lanes (kinded-number {n = n} l) = and-one {x = n} (omega arith) no-more
+  value-lanes (kinded-float {n = n} l) = and-one {x = n} l no-more
   value-lanes (kinded-truth b) = and-one (bit-low b) no-more
   value-lanes (kinded-variable {x = x} h) = lanes x h
   value-lanes kinded-mask = all-bits m
@@ -181,6 +199,7 @@ pub lane-low : (k : Kind) (l : List ℕ) → Bytes l → lane-of k (take (size k
 unfolding lane-of size lane-bits
 lane-low int l a = number-low l 4 a
 lane-low bool l a = bit-low _
+lane-low float l a = number-low l 4 a
 
 pub load-lanes : (k : Kind) (n : ℕ) (l : List ℕ) → Bytes l → Lanes k (load k n l)
 unfolding load
@@ -215,6 +234,7 @@ little-endian-bytes (suc w) n = and-one (mod-lt n (omega arith)) (little-endian-
 bytes-of-bytes : (k : Kind) (n : ℕ) → Bytes (bytes-of k n)
 unfolding bytes-of bool-byte true-byte
 bytes-of-bytes int n = little-endian-bytes 4 n
+bytes-of-bytes float n = little-endian-bytes 4 (one-nan n)
 bytes-of-bytes bool n = and-one (go (truth n)) no-more
   where
     go : (b : Bool) → bool-byte b < 256

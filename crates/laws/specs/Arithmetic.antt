@@ -2,7 +2,7 @@
 -- each operator makes of them.
 use Prim.Native.Nat.{ℕ, _/_, _%_, _^_, _<_}
 use mathlib.Core.Path.{_≡_}
-use mathlib.Core.Bool.{Bool, _&&_, _||_}
+use mathlib.Core.Bool.{Bool, true, _&&_, _||_}
 use mathlib.Core.Bool as B
 use mathlib.Core.List.{List, [], _∷_, map}
 use lib.Dec.{ltb}
@@ -10,7 +10,7 @@ use lib.IntN.{ℤ, pos, _+ℤ_, _-ℤ_, _*ℤ_, negℤ}
 use lib.ListN.{length, getD, take}
 use lib.Signed.{_≤ℤ_, _<ℤ_}
 use Rattle.meaning.specs.declared.Kind.{Kind}
-use Rattle.meaning.specs.declared.Kind.the-variants.{Int as int, Bool as bool}
+use Rattle.meaning.specs.declared.Kind.the-variants.{Int as int, Bool as bool, Float as float}
 use Rattle.meaning.specs.declared.Unary.{Unary}
 use Rattle.meaning.specs.declared.Unary.the-variants.{Neg as neg, Inv as inv, Not as not}
 use Rattle.meaning.specs.declared.Binary.{Binary}
@@ -18,6 +18,8 @@ use Rattle.meaning.specs.declared.Binary.the-variants.{Or as or, Xor as xor, An
 use Rattle.meaning.specs.Codes.{if_then_else_}
 use Rattle.meaning.specs.Program.{Code, constant, variable, the-mask, one, two}
 use Rattle.meaning.specs.Memory.{Memory, Value, Mask, Declarations, bit, truth, load}
+use Rattle.meaning.specs.Floats as F
+use Rattle.meaning.specs.Floats.{plus, negated, minus, times, level}
 use Rattle.meaning.specs.Typing.{joined}
 use Rattle.meaning.specs.Services.{evaluate}
 use Rattle.laws.specs.Lengths.{Match}
@@ -53,6 +55,8 @@ pub data Gives-one : Kind → Unary → ℕ → ℕ → Type 0 where
   negative : {a c : ℕ} → Keeps-low (negℤ (signed a)) (signed c) → Gives-one int neg a c
   complement : {a c : ℕ} → Each-bit (λ i. B.not (bit-at i a)) c → Gives-one int inv a c
   opposite : {a c : ℕ} → c ≡ bit (B.not (truth a)) → Gives-one bool not a c
+  -- of floats "unary minus"
+  negated-single : {a c : ℕ} → c ≡ negated a → Gives-one float neg a c
 
 -- A binary operator on lanes a and b of kind k gives the lane c.
 pub data Gives-two : Kind → Binary → ℕ → ℕ → ℕ → Type 0 where
@@ -77,6 +81,16 @@ pub data Gives-two : Kind → Binary → ℕ → ℕ → ℕ → Type 0 where
   truths-and : {a b c : ℕ} → c ≡ bit (truth a && truth b) → Gives-two bool and a b c
   truths-equal : {a b c : ℕ} → Says (truth a ≡ truth b) c → Gives-two bool eq a b c
   truths-unequal : {a b c : ℕ} → Says (truth a ≡ truth b → ⊥) c → Gives-two bool ne a b c
+  -- of floats "`+ - *` .. and all comparisons": what they are as numbers is the matter of singles
+  single-sum : {a b c : ℕ} → c ≡ plus a b → Gives-two float add a b c
+  single-difference : {a b c : ℕ} → c ≡ minus a b → Gives-two float sub a b c
+  single-product : {a b c : ℕ} → c ≡ times a b → Gives-two float mul a b c
+  single-below : {a b c : ℕ} → Says (F.below a b ≡ true) c → Gives-two float lt a b c
+  single-above : {a b c : ℕ} → Says (F.below b a ≡ true) c → Gives-two float gt a b c
+  single-at-most : {a b c : ℕ} → Says (F.below a b || level a b ≡ true) c → Gives-two float le a b c
+  single-at-least : {a b c : ℕ} → Says (F.below b a || level a b ≡ true) c → Gives-two float ge a b c
+  single-equal : {a b c : ℕ} → Says (level a b ≡ true) c → Gives-two float eq a b c
+  single-unequal : {a b c : ℕ} → Says (level a b ≡ true → ⊥) c → Gives-two float ne a b c
 
 -- "a bool is one byte, false exactly at 0": n lanes are read by the truth of each byte, whatever byte it is.
 abbrev pub Read-by-truth : ℕ → List ℕ → Type 0

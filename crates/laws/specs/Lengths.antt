@@ -1,10 +1,10 @@
 -- What typing makes sure of in a program: lengths match, and every operator and every target has the kinds that it takes.
-use Prim.Native.Nat.{ℕ, _≤_, _<_}
+use Prim.Native.Nat.{ℕ, _^_, _≤_, _<_}
 use mathlib.Core.Path.{_≡_}
 use mathlib.Core.Bool.{Bool, true}
 use lib.ListN.{length}
 use Rattle.meaning.specs.declared.Kind.{Kind}
-use Rattle.meaning.specs.declared.Kind.the-variants.{Int as int, Bool as bool}
+use Rattle.meaning.specs.declared.Kind.the-variants.{Int as int, Bool as bool, Float as float}
 use Rattle.meaning.specs.declared.Unary.{Unary}
 use Rattle.meaning.specs.declared.Binary.{Binary}
 use Rattle.meaning.specs.Codes.{number-limit}
@@ -41,6 +41,7 @@ pub data Matched (Γ : Declarations) (C : ℕ) : Code → Type 0 where
 -- An expression of kind k: each operator takes the kind of its operands, which stands beside it.
 pub data Kinded (Γ : Declarations) : Kind → Code → Type 0 where
   kinded-number : {n : ℕ} → n ≤ number-limit → Kinded Γ int (constant n)
+  kinded-float : {n : ℕ} → n < 2 ^ 32 → Kinded Γ float (constant n)
   kinded-truth : (b : Bool) → Kinded Γ bool (constant (bit b))
   kinded-variable : {x : ℕ} → x < length Γ → Kinded Γ ((declared Γ x) .kind) (variable x)
   kinded-mask : Kinded Γ bool the-mask

@@ -9,3 +9,4 @@ pub mod Values
 pub mod Words
 pub mod Arithmetic
 pub mod Order
+pub mod Floats

@@ -1,6 +1,6 @@
 -- What every tree that was read, and every program that was typed, keeps to: names and places that lie in the text, and the room that
 -- the stages over them need.
-use Prim.Native.Nat.{ℕ, suc, _+_, _*_, _≤_, _<_, max}
+use Prim.Native.Nat.{ℕ, suc, _+_, _*_, _^_, _≤_, _<_, max}
 use mathlib.Core.Path.{_≡_}
 use mathlib.Core.Bool.{Bool}
 use mathlib.Core.List.{List}
@@ -10,7 +10,7 @@ use Rattle.meaning.specs.declared.Kind.{Kind}
 use Rattle.meaning.specs.Codes.{number-limit, nesting-limit}
 use Rattle.meaning.specs.declared.Unary.{Unary}
 use Rattle.meaning.specs.declared.Binary.{Binary}
-use Rattle.meaning.specs.Tree.{Name, Expr, number, boolean, name, current-mask, unary, binary, Block, Stmt, empty, braces, declare, assign, if-else, while, scalar, Stmts, none-yet, _⨾_}
+use Rattle.meaning.specs.Tree.{Name, Expr, number, float-number, boolean, name, current-mask, unary, binary, Block, Stmt, empty, braces, declare, assign, if-else, while, scalar, Stmts, none-yet, _⨾_}
 use Rattle.meaning.specs.Program.{Code, constant, variable, the-mask, one, two, Program, nothing, step, put, both, choice, cycle, alone}
 
 -- A name's bytes stand in the text at its place.
@@ -22,6 +22,7 @@ pub record Spelled (text : List ℕ) (p : ℕ) (x : Name) : Type 0 where
 -- How many values stand on the stack at once while an expression is gone through, operands before their operator.
 unfoldable pub stack : Expr → ℕ
 stack (number n) = 1
+stack (float-number n) = 1
 stack (boolean b) = 1
 stack (name p x) = 1
 stack current-mask = 1
@@ -32,9 +33,11 @@ stack (binary p o a b) = max (stack a) (suc (stack b))
 unfoldable pub stack-limit : ℕ
 stack-limit = 7 * suc nesting-limit + 1
 
--- The names of an expression stand in the text, the places of its operators lie in it, and its numbers are within their limit.
+-- The names of an expression stand in the text, the places of its operators lie in it, its numbers are within their limit, and
+-- its floats are words.
 pub data In-text (text : List ℕ) : Expr → Type 0 where
   of-number : {n : ℕ} → n ≤ number-limit → In-text text (number n)
+  of-float : {n : ℕ} → n < 2 ^ 32 → In-text text (float-number n)
   of-boolean : {b : Bool} → In-text text (boolean b)
   of-name : {p : ℕ} {x : Name} → Spelled text p x → In-text text (name p x)
   of-mask : In-text text current-mask

@@ -1,5 +1,5 @@
 -- What every token of a text keeps to.
-use Prim.Native.Nat.{ℕ, suc, _≤_, _<_}
+use Prim.Native.Nat.{ℕ, suc, _^_, _≤_, _<_}
 use mathlib.Core.Path.{_≡_}
 use mathlib.Core.List.{List, [], _∷_}
 use lib.ListN.{length}
@@ -12,6 +12,7 @@ pub record TokenIn (text : List ℕ) (t : Token) : Type 0 where
   pub inside : t .place < length text
   pub not-end : t .is ≡ the "end" → ⊥
   pub number : t .is ≡ the "number" → t .value ≤ number-limit
+  pub float : t .is ≡ the "float number" → t .value < 2 ^ 32
   pub name : t .is ≡ the "name" → Spelled text (t .place) (t .spelled)
 
 -- Tokens of the text from number k on, each at place k or later, and then its end.

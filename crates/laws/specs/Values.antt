@@ -2,7 +2,7 @@
 use Prim.Native.Nat.{ℕ, _^_, _<_}
 use mathlib.Core.List.{List, [], _∷_}
 use Rattle.meaning.specs.declared.Kind.{Kind}
-use Rattle.meaning.specs.declared.Kind.the-variants.{Int as int, Bool as bool}
+use Rattle.meaning.specs.declared.Kind.the-variants.{Int as int, Bool as bool, Float as float}
 use Rattle.meaning.specs.Program.{Code, Program, nothing, step, put, both, choice, cycle, alone}
 use Rattle.meaning.specs.Memory.{Value, Memory, Declarations, declared}
 
@@ -15,8 +15,9 @@ pub data All {A : Type 0} (P : A → Type 0) : List A → Type 0 where
 unfoldable pub lane-bits : Kind → ℕ
 lane-bits int = 32
 lane-bits bool = 1
+lane-bits float = 32
 
--- The lanes of a value of kind k: "each is a word below 2^32, and 0 or 1 for a bool".
+-- The lanes of a value of kind k: "each is a word below 2^32, 0 or 1 for a bool, the pattern of a float".
 abbrev pub Lanes : Kind → Value → Type 0
 Lanes k v = All (λ x. x < 2 ^ lane-bits k) v
 

@@ -7,7 +7,7 @@ use lib.Dec.{eqb}
 use lib.ListN.{length, getD, take, drop}
 use lib.Seq.{sets}
 use Rattle.meaning.specs.declared.Kind.{Kind}
-use Rattle.meaning.specs.declared.Kind.the-variants.{Int as int, Bool as bool}
+use Rattle.meaning.specs.declared.Kind.the-variants.{Int as int, Bool as bool, Float as float}
 use Rattle.meaning.specs.Memory.{Declared, Declarations, declared}
 use Rattle.layout.specs.Words.{unit}
 
@@ -37,10 +37,11 @@ open-column = 5
 abbrev pub word-of : List ℕ → ℕ → ℕ → ℕ
 word-of table i k = getD table (i * row-words + k) 0
 
--- The kind of a number (`kind-number`): 0 int, 1 bool.
+-- The kind of a number (`kind-number`): 0 int, 1 bool, 2 float.
 unfoldable pub kind-of : ℕ → Kind
 kind-of zero = int
-kind-of (suc n) = bool
+kind-of (suc zero) = bool
+kind-of (suc (suc n)) = float
 
 -- Declaration i of a table, in a text.
 unfoldable pub entry : List ℕ → List ℕ → ℕ → Declared

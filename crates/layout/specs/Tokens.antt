@@ -19,11 +19,13 @@ place-at tokens i = getD tokens (i * token-words + 1) 0
 abbrev pub value-at : List ℕ → ℕ → ℕ
 value-at tokens i = getD tokens (i * token-words + 2) 0
 
--- One token: its value is what a number is worth, and the end of a name; of any other token nothing is said of it.
+-- One token: its value is what a number is worth, the pattern of a float's constant, and the end of a name; of any other token nothing is
+-- said of it.
 pub record Token-row (kind place value : ℕ) (t : Token) : Type 0 where
   pub is : kind ≡ t .is
   pub at : place ≡ t .place
   pub worth : t .is ≡ the "number" → value ≡ t .value
+  pub pattern : t .is ≡ the "float number" → value ≡ t .value
   pub end : t .is ≡ the "name" → value ≡ t .place + length (t .spelled)
 
 -- The buffer begins with the tokens ts.

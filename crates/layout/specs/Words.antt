@@ -10,14 +10,14 @@ use mathlib.Core.Option.{Option, none, some}
 use lib.Dec.{eqb}
 use lib.ListN.{length}
 use Rattle.meaning.specs.declared.Kind.{Kind}
-use Rattle.meaning.specs.declared.Kind.the-variants.{Int as int, Bool as bool}
+use Rattle.meaning.specs.declared.Kind.the-variants.{Int as int, Bool as bool, Float as float}
 use Rattle.meaning.specs.declared.Unary.the-variants.{Neg as neg, Inv as inv, Not as not}
 use Rattle.meaning.specs.declared.Binary.the-variants.{Or as or, Xor as xor, And as and, Eq as eq, Ne as ne, Lt as lt, Gt as gt, Le as le, Ge as ge, Add as add, Sub as sub, Mul as mul}
 use Rattle.meaning.specs.Codes.{option, lookup}
 use Rattle.meaning.specs.Tokens.{the}
 use Rattle.meaning.specs.declared.Unary.{Unary}
 use Rattle.meaning.specs.declared.Binary.{Binary}
-use Rattle.meaning.specs.Tree.{table, unary-table, Expr, number, boolean, name, current-mask, unary, binary, Block, Stmt, empty, braces, declare, assign, if-else, while, scalar, Stmts, none-yet, _⨾_}
+use Rattle.meaning.specs.Tree.{table, unary-table, Expr, number, float-number, boolean, name, current-mask, unary, binary, Block, Stmt, empty, braces, declare, assign, if-else, while, scalar, Stmts, none-yet, _⨾_}
 
 -- The words of a unit.
 abbrev pub unit-words : ℕ
@@ -51,10 +51,12 @@ boolean-tag false = the "false"
 unfoldable pub kind-tag : Kind → ℕ
 kind-tag int = the "int"
 kind-tag bool = the "bool"
+kind-tag float = the "float"
 
--- A node: a number's value; a name's place and end; an operator's place.
+-- A node: a number's value; a float's pattern; a name's place and end; an operator's place.
 unfoldable pub flat : Expr → List ℕ
 flat (number n) = unit (the "number") n 0
+flat (float-number n) = unit (the "float number") n 0
 flat (boolean b) = unit (boolean-tag b) 0 0
 flat (name p x) = unit (the "name") p (p + length x)
 flat current-mask = unit (the "current_mask") 0 0

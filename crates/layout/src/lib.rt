@@ -56,6 +56,7 @@ pub fn kind_number(kind: Kind) -> u32
     match kind {
         Kind::Int => 0,
         Kind::Bool => 1,
+        Kind::Float => 2,
     }
 }
 
@@ -63,5 +64,9 @@ pub fn kind_number(kind: Kind) -> u32
 pub fn kind_of(number: u32) -> Kind
     ensures { λ r. ⌜ r ≡ kind-of number ⌝ }
 {
-    if number == 0 { Kind::Int } else { Kind::Bool }
+    match number {
+        0 => Kind::Int,
+        1 => Kind::Bool,
+        _ => Kind::Float,
+    }
 }

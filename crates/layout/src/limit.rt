@@ -8,6 +8,9 @@ pub const NAME: usize = 31;
 // The greatest number.
 pub const NUMBER: u64 = 2147483647;
 
+// The greatest whole number of a float's constant.
+pub const FLOAT: u64 = 16777216;
+
 // Levels of nesting.
 pub const NESTING: usize = 32;
 

@@ -8,6 +8,8 @@ ghost use Rattle.layout.specs.Words.{sign-of, operator-of};
 // Nodes of an expression that are no operators.
 pub const NUMBER: u32 = token::NUMBER;
 
+pub const FLOAT_NUMBER: u32 = token::FLOAT_NUMBER;
+
 pub const NAME: u32 = token::NAME;
 
 pub const TRUE: u32 = token::TRUE;
@@ -38,6 +40,8 @@ pub const SCALAR: u32 = token::SCALAR;
 pub const INT: u32 = token::INT;
 
 pub const BOOL: u32 = token::BOOL;
+
+pub const FLOAT: u32 = token::FLOAT;
 
 // Statements of a program that a tree does not have: a step, and a value that is put into a variable.
 pub const STEP: u32 = token::SEMICOLON;

@@ -19,6 +19,8 @@ pub const NUMBER: u32 = 1;
 
 pub const NAME: u32 = 2;
 
+pub const FLOAT_NUMBER: u32 = 3;
+
 pub const INT: u32 = 16;
 
 pub const BOOL: u32 = 17;
@@ -38,6 +40,8 @@ pub const CURRENT_MASK: u32 = 23;
 pub const TRUE: u32 = 24;
 
 pub const FALSE: u32 = 25;
+
+pub const FLOAT: u32 = 26;
 
 pub const EQUAL: u32 = 48;
 

@@ -6,7 +6,11 @@ use Rattle.meaning.specs.Tokens.{bytes}
 use Rattle.meaning.specs.Memory.{little-endian}
 use Rattle.meaning.specs.Services.{answer, judge, run}
 use Rattle.meaning.specs.Table.{_over_for_gives_leaves_, _gets_at_, ints, judged-as, found, expected}
-use Rattle.meaning.specs.Requests.{near-words, long-blocks, digits, declarations}
+use Rattle.meaning.specs.Requests.{floats, near-words, long-blocks, digits, declarations}
+
+pub floats-hold : map found floats ≡ map expected floats
+unfolding found expected judged-as the-judge-gives only-a-run-gives floats _over_for_gives_leaves_ _gets_at_ ints bytes little-endian run judge answer
+floats-hold = refl
 
 pub near-words-hold : map found near-words ≡ map expected near-words
 unfolding found expected judged-as the-judge-gives only-a-run-gives near-words _over_for_gives_leaves_ _gets_at_ ints bytes little-endian run judge answer

@@ -35,6 +35,10 @@ name-limit = 31
 abbrev pub number-limit : ℕ
 number-limit = 2147483647
 
+-- A float constant's whole number: "up to 16777216".
+abbrev pub float-limit : ℕ
+float-limit = 16777216
+
 -- Nesting: "The limit is 32."
 abbrev pub nesting-limit : ℕ
 nesting-limit = 32

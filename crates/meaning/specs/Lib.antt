@@ -3,6 +3,7 @@ pub mod Tokens
 pub mod Tree
 pub mod Reading
 pub mod Program
+pub mod Floats
 pub mod Memory
 pub mod Typing
 pub mod Running

@@ -4,14 +4,15 @@ use mathlib.Core.Bool.{Bool, true, false}
 use mathlib.Core.List.{List, [], _∷_, _++_}
 use lib.ListN.{take, drop, replicate, getD}
 use Rattle.meaning.specs.declared.Kind.{Kind}
-use Rattle.meaning.specs.declared.Kind.the-variants.{Int as int, Bool as bool}
+use Rattle.meaning.specs.declared.Kind.the-variants.{Int as int, Bool as bool, Float as float}
+use Rattle.meaning.specs.Floats.{one-nan}
 use Rattle.meaning.specs.Tree.{Name}
 
 -- Bytes.
 abbrev pub Memory : Type 0
 Memory = List ℕ
 
--- The lanes of a value: each is a word below 2^32, and 0 or 1 for a bool.
+-- The lanes of a value: each is a word below 2^32, 0 or 1 for a bool, the pattern of a float.
 abbrev pub Value : Type 0
 Value = List ℕ
 
@@ -19,10 +20,11 @@ Value = List ℕ
 abbrev pub Mask : Type 0
 Mask = List Bool
 
--- "An int is 4 bytes .. a bool is one byte" (000: sizes of data types)
+-- "An int is 4 bytes .. a bool is one byte" (000: sizes of data types); document 02, R-2: "`float`, 4 bytes"
 unfoldable pub size : Kind → ℕ
 size int = 4
 size bool = 1
+size float = 4
 
 -- "false exactly at 0"
 unfoldable pub truth : ℕ → Bool
@@ -89,11 +91,13 @@ number-of (b ∷ l) = b + 256 * number-of l
 unfoldable pub lane-of : Kind → List ℕ → ℕ
 lane-of int l = number-of l
 lane-of bool l = bit (truth (number-of l))
+lane-of float l = number-of l
 
--- The bytes that hold a lane.
+-- The bytes that hold a lane. Document 02, R-2: "Every stored not-a-number is the pattern 7FC00000".
 unfoldable pub bytes-of : Kind → ℕ → List ℕ
 bytes-of int n = little-endian 4 n
 bytes-of bool n = bool-byte (truth n) ∷ []
+bytes-of float n = little-endian 4 (one-nan n)
 
 -- "A block's elements lie side by side": n lanes from the bytes of one variable (000: packed layout).
 unfoldable pub load : Kind → ℕ → List ℕ → Value
@@ -120,7 +124,7 @@ fetch Γ M x = let d = declared Γ x in load (d .kind) (d .lanes) (drop (d .addr
 
 -- The memory after a store to x: "A store is handed the bytes of one variable and no others."
 unfoldable pub update : Declarations → Memory → ℕ → Mask → Value → Memory
-unfolding declared whole size spread store bytes-of little-endian bool-byte true-byte truth
+unfolding declared whole size spread store bytes-of little-endian bool-byte true-byte truth one-nan
 update Γ M x m v =
     let d = declared Γ x in
     let n = whole (d .kind) (d .lanes) in

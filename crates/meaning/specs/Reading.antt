@@ -12,7 +12,7 @@ use Rattle.meaning.specs.Codes.{Out, ok, Doing, _>>=_, _>>_, give, refus
 use Rattle.meaning.specs.Tokens.{Token, end-at, the, words, marks, numbered, reserved, signs}
 use Rattle.meaning.specs.declared.Unary.the-variants.{Neg as neg, Inv as inv, Not as not}
 use Rattle.meaning.specs.declared.Binary.{Binary}
-use Rattle.meaning.specs.Tree.{kinds, table, unary-table, levels, Expr, number, boolean, name, current-mask, unary, binary, Block, Stmt, empty, braces, declare, assign, if-else, while, scalar, Stmts, none-yet, _⨾_}
+use Rattle.meaning.specs.Tree.{kinds, table, unary-table, levels, Expr, number, float-number, boolean, name, current-mask, unary, binary, Block, Stmt, empty, braces, declare, assign, if-else, while, scalar, Stmts, none-yet, _⨾_}
 
 -- Reading goes on from a position in the list of tokens.
 abbrev pub Reads : Type 0 → Type 0
@@ -69,12 +69,13 @@ module _ (ts : List Token) where
   binaries [] operands = operands
   binaries (os ∷ ls) operands = do e ← binaries ls operands; as-long (more os (binaries ls operands)) e
 
-  -- "then unary `-` `~` `!`, then number, true, false, name, current_mask, or a parenthesised expression"; `deep` and `parens`
-  -- read what stands one level deeper.
+  -- "then unary `-` `~` `!`, then number, true, false, name, current_mask, or a parenthesised expression"; document 02,
+  -- R-2: "A constant is a whole number up to 16777216 followed by `.0`". `deep` and `parens` read what stands one level deeper.
   unfoldable pub operand : After Expr → After Expr → Reads Expr
   operand deep parens = choose (
       map (λ o. (unary-table o) .0 ⇒ λ t. do e ← deep t; give (unary (t .place) o e)) (neg ∷ inv ∷ not ∷ []) ++
       ("number" ⇒ λ t. give (number (t .value)))
+      ∷ ("float number" ⇒ λ t. give (float-number (t .value)))
       ∷ ("true" ⇒ λ t. give (boolean true))
       ∷ ("false" ⇒ λ t. give (boolean false))
       ∷ ("name" ⇒ λ t. give (name (t .place) (t .spelled)))

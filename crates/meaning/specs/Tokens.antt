@@ -1,4 +1,4 @@
--- Document 01, "The text": bytes to tokens with their places; refusal 2.
+-- Document 01, "The text": bytes to tokens with their places; refusal 2. Document 02, R-2: the constants of floats.
 use Prim.Native.Nat.{ℕ, zero, suc, _+_, _*_, _-_}
 use Prim.Native.String as S
 use Prim.Native.String.{String}
@@ -10,16 +10,17 @@ use lib.Dec.{eqb, leb}
 use lib.ListN.{length, take, drop, getD}
 use lib.Text.{eqt}
 use Rattle.meaning.specs.declared.Refusal.the-variants.{TextTooLong, BadBytes}
-use Rattle.meaning.specs.Codes.{Out, ok, refused, Doing, _>>=_, repeat, if_then_else_, option, lookup, _among_, text-limit, name-limit, number-limit}
+use Rattle.meaning.specs.Codes.{Out, ok, refused, Doing, _>>=_, repeat, if_then_else_, option, lookup, _among_, text-limit, name-limit, number-limit, float-limit}
+use Rattle.meaning.specs.Floats.{whole-float}
 
 -- The bytes of a text that is written here in quotes.
 unfoldable pub bytes : String → List ℕ
 bytes S.[] = []
 bytes (S._∷_ c s) = C.code c ∷ bytes s
 
--- "Reserved: int bool block if else while scalar current_mask true false."
+-- "Reserved: int bool block if else while scalar current_mask true false." Document 02, R-2: "`float` becomes reserved."
 unfoldable pub reserved : List String
-reserved = "int" ∷ "bool" ∷ "block" ∷ "if" ∷ "else" ∷ "while" ∷ "scalar" ∷ "current_mask" ∷ "true" ∷ "false" ∷ []
+reserved = "int" ∷ "bool" ∷ "block" ∷ "if" ∷ "else" ∷ "while" ∷ "scalar" ∷ "current_mask" ∷ "true" ∷ "false" ∷ "float" ∷ []
 
 -- "Signs: `; { } ( ) [ ] = == != < > <= >= + - * & | ^ ~ !`", in the order in which they are tried: "longest first".
 unfoldable pub signs : List String
@@ -41,9 +42,10 @@ marks = numbered 48 signs
 
 -- `the "if"`: what the token `if` is.
 unfoldable pub the : String → ℕ
-the s = option 0 (λ n. n) (lookup (eqt s) (numbered 0 ("end" ∷ "number" ∷ "name" ∷ []) ++ words ++ marks))
+the s = option 0 (λ n. n) (lookup (eqt s) (numbered 0 ("end" ∷ "number" ∷ "name" ∷ "float number" ∷ []) ++ words ++ marks))
 
--- A token: what it is, its place ("a byte offset in the text"), the value of a number, and the bytes of a name.
+-- A token: what it is, its place ("a byte offset in the text"), the value of a number, of a float's constant its pattern, and the bytes of a
+-- name.
 pub record Token : Type 0 where
   pub is : ℕ
   pub place : ℕ
@@ -94,9 +96,9 @@ unfoldable pub decimal : ℕ → List ℕ → ℕ
 decimal n [] = n
 decimal n (c ∷ s) = decimal (10 * n + (c - 48)) s
 
--- "0 to 2147483647, with no leading zero unless it is `0`"
-unfoldable pub good-number : List ℕ → Bool
-good-number s = leb (decimal 0 s) number-limit && (eqb (length s) 1 || not (eqb (getD s 0 0) 48))
+-- "0 to 2147483647, with no leading zero unless it is `0`": digits of a number up to a limit
+unfoldable pub good-number : ℕ → List ℕ → Bool
+good-number limit s = leb (decimal 0 s) limit && (eqb (length s) 1 || not (eqb (getD s 0 0) 48))
 
 -- What some bytes start with: nothing, what no rule allows, n bytes between tokens, or a token of n bytes.
 pub data Piece : Type 0 where
@@ -114,7 +116,16 @@ word s =
 
 -- A number, from its digits.
 unfoldable pub digits : List ℕ → Piece
-digits s = if good-number s then (λ _. token (the "number") (decimal 0 s) [] (length s)) else λ _. bad
+digits s = if good-number number-limit s then (λ _. token (the "number") (decimal 0 s) [] (length s)) else λ _. bad
+
+-- "A constant is a whole number up to 16777216 followed by `.0`": from the digits of the whole number and those behind the point.
+unfoldable pub constant : List ℕ → List ℕ → Piece
+constant s t =
+    if good-number float-limit s && equal (bytes "0") t then (λ _. token (the "float number") (whole-float (decimal 0 s)) [] (length s + 2)) else λ _. bad
+
+-- What begins with digits s, before the bytes t: a constant where a point follows directly. "2 for a larger or malformed constant".
+unfoldable pub numeral : List ℕ → List ℕ → Piece
+numeral s t = if starts (bytes ".") t then (λ _. constant s (take (run-of digit (drop 1 t)) (drop 1 t))) else λ _. digits s
 
 -- The first sign of a list that the bytes start with.
 unfoldable pub sign : List (String × ℕ) → List ℕ → Piece
@@ -128,7 +139,7 @@ piece (c ∷ s) = let t = c ∷ s in
     if space c then (λ _. gap (run-of space t)) else λ _.
     if starts (bytes "//") t then (λ _. gap (run-of in-line t)) else λ _.
     if letter c then (λ _. word (take (run-of letter-or-digit t) t)) else λ _.
-    if digit c then (λ _. digits (take (run-of digit t) t)) else λ _.
+    if digit c then (λ _. numeral (take (run-of digit t) t) (drop (run-of digit t) t)) else λ _.
     sign marks t
 
 -- One turn at a place p, after the tokens l; a refusal is at the "token start".
@@ -146,5 +157,5 @@ tokens text = (do
 
 -- "At most 4,096 bytes." "Order: 1; then 2 over the whole text".
 unfoldable pub lexed : List ℕ → Out ℕ (List Token)
-unfolding bytes reserved signs numbered words marks the end-at space digit letter letter-or-digit in-line run-of starts equal decimal good-number word digits sign piece turn tokens
+unfolding bytes reserved signs numbered words marks the end-at space digit letter letter-or-digit in-line run-of starts equal decimal good-number whole-float word digits constant numeral sign piece turn tokens
 lexed text = if leb (length text) text-limit then (λ _. tokens text) else λ _. refused TextTooLong 0

@@ -6,7 +6,7 @@ use mathlib.Core.List.{List, [], _∷_}
 use mathlib.Core.Option.{Option, none, some}
 use lib.Dec.{eqb}
 use Rattle.meaning.specs.declared.Kind.{Kind}
-use Rattle.meaning.specs.declared.Kind.the-variants.{Int as int, Bool as bool}
+use Rattle.meaning.specs.declared.Kind.the-variants.{Int as int, Bool as bool, Float as float}
 use Rattle.meaning.specs.declared.Unary.{Unary}
 use Rattle.meaning.specs.declared.Unary.the-variants.{Neg as neg, Inv as inv, Not as not}
 use Rattle.meaning.specs.declared.Binary.{Binary}
@@ -17,14 +17,15 @@ use Rattle.meaning.specs.Codes.{option}
 abbrev pub Name : Type 0
 Name = List ℕ
 
--- "A type is `int` or `bool`": the kinds by their words.
+-- "A type is `int` or `bool`"; document 02, R-2: "Add `float`". The kinds by their words.
 unfoldable pub kinds : List (String × Kind)
-kinds = ("int", int) ∷ ("bool", bool) ∷ []
+kinds = ("int", int) ∷ ("bool", bool) ∷ ("float", float) ∷ []
 
 -- The number of a kind, in the same order.
 unfoldable pub kind-number : Kind → ℕ
 kind-number int = 0
 kind-number bool = 1
+kind-number float = 2
 
 -- "of one kind"
 unfoldable pub same-kind : Kind → Kind → Bool
@@ -41,24 +42,25 @@ pub data Gives : Type 0 where
   a-bool its-kind : Gives
 
 -- The binary operators: the sign, the kinds of which it takes two alike, and what it gives. "`+ - *` and `< > <= >=` take ints;
--- `== != & | ^` take two of one kind".
+-- `== != & | ^` take two of one kind"; of floats "`+ - *`, unary minus and all comparisons".
 unfoldable pub table : Binary → String × List Kind × Gives
 table or = ("|", int ∷ bool ∷ [], its-kind)
 table xor = ("^", int ∷ bool ∷ [], its-kind)
 table and = ("&", int ∷ bool ∷ [], its-kind)
-table eq = ("==", int ∷ bool ∷ [], a-bool)
-table ne = ("!=", int ∷ bool ∷ [], a-bool)
-table lt = ("<", int ∷ [], a-bool)
-table gt = (">", int ∷ [], a-bool)
-table le = ("<=", int ∷ [], a-bool)
-table ge = (">=", int ∷ [], a-bool)
-table add = ("+", int ∷ [], its-kind)
-table sub = ("-", int ∷ [], its-kind)
-table mul = ("*", int ∷ [], its-kind)
+table eq = ("==", int ∷ bool ∷ float ∷ [], a-bool)
+table ne = ("!=", int ∷ bool ∷ float ∷ [], a-bool)
+table lt = ("<", int ∷ float ∷ [], a-bool)
+table gt = (">", int ∷ float ∷ [], a-bool)
+table le = ("<=", int ∷ float ∷ [], a-bool)
+table ge = (">=", int ∷ float ∷ [], a-bool)
+table add = ("+", int ∷ float ∷ [], its-kind)
+table sub = ("-", int ∷ float ∷ [], its-kind)
+table mul = ("*", int ∷ float ∷ [], its-kind)
 
--- The unary operators: the sign, and the kinds that it takes and gives. "`-` `~` take int, `!` bool".
+-- The unary operators: the sign, and the kinds that it takes and gives. "`-` `~` take int, `!` bool"; document 02, R-2: of
+-- floats "unary minus".
 unfoldable pub unary-table : Unary → String × List Kind
-unary-table neg = ("-", int ∷ [])
+unary-table neg = ("-", int ∷ float ∷ [])
 unary-table inv = ("~", int ∷ [])
 unary-table not = ("!", bool ∷ [])
 
@@ -66,9 +68,11 @@ unary-table not = ("!", bool ∷ [])
 unfoldable pub levels : List (List Binary)
 levels = (or ∷ []) ∷ (xor ∷ []) ∷ (and ∷ []) ∷ (eq ∷ ne ∷ []) ∷ (lt ∷ gt ∷ le ∷ ge ∷ []) ∷ (add ∷ sub ∷ []) ∷ (mul ∷ []) ∷ []
 
--- "number, true, false, name, current_mask", and operators. The number in front is the place of the name or the operator.
+-- "number, true, false, name, current_mask", and operators; a float's constant by its pattern. The number in front is the place of the
+-- name or the operator.
 pub data Expr : Type 0 where
   number : ℕ → Expr
+  float-number : ℕ → Expr
   boolean : Bool → Expr
   name : ℕ → Name → Expr
   current-mask : Expr
@@ -100,6 +104,7 @@ mutual
 -- The tree without its places: two texts have the same tree when these are equal.
 unfoldable pub bare : Expr → Expr
 bare (number n) = number n
+bare (float-number n) = float-number n
 bare (boolean b) = boolean b
 bare (name p x) = name 0 x
 bare current-mask = current-mask

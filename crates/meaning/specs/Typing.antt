@@ -7,11 +7,11 @@ use mathlib.Core.Option.{Option, none, some}
 use lib.Dec.{eqb, ltb}
 use lib.ListN.{length, take, drop}
 use Rattle.meaning.specs.declared.Kind.{Kind}
-use Rattle.meaning.specs.declared.Kind.the-variants.{Int as int, Bool as bool}
+use Rattle.meaning.specs.declared.Kind.the-variants.{Int as int, Bool as bool, Float as float}
 use Rattle.meaning.specs.declared.Refusal.the-variants.{UnknownName, AlreadyOpen, LengthNotListed, WrongKind, WrongLength, LengthOneTarget, TooManyDeclarations}
 use Rattle.meaning.specs.Codes.{Out, ok, refused, Doing, after, _>>=_, _>>_, give, refuse, check, option, if_then_else_, _among_, lengths, declaration-limit}
 use Rattle.meaning.specs.Tokens.{equal, starts}
-use Rattle.meaning.specs.Tree.{Name, kind-number, same-kind, _one-of_, Gives, a-bool, its-kind, table, unary-table, Expr, number, boolean, name, current-mask, unary, binary, Block, Stmt, empty, braces, declare, assign, if-else, while, scalar, Stmts, none-yet, _⨾_}
+use Rattle.meaning.specs.Tree.{Name, kind-number, same-kind, _one-of_, Gives, a-bool, its-kind, table, unary-table, Expr, number, float-number, boolean, name, current-mask, unary, binary, Block, Stmt, empty, braces, declare, assign, if-else, while, scalar, Stmts, none-yet, _⨾_}
 use Rattle.meaning.specs.Program.{Code, constant, variable, the-mask, one, two, Program, nothing, step, put, both, choice, cycle, alone}
 use Rattle.meaning.specs.Memory.{Declared, Declarations, declared, whole, next-multiple, need, bit, size}
 
@@ -61,6 +61,7 @@ variable-named C p x Γ = option (refuse UnknownName p) (λ i. do
 -- "Within an operator: operands left to right, then 8, 9 at the operator."
 unfoldable pub typed : ℕ → Expr → Types Typed
 typed C (number n) = give (record { code = constant n; kind = int; lanes = 1 })
+typed C (float-number n) = give (record { code = constant n; kind = float; lanes = 1 })
 typed C (boolean b) = give (record { code = constant (bit b); kind = bool; lanes = 1 })
 typed C (name p x) = do
   (i, d) ← variable-named C p x

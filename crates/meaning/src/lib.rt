@@ -2,10 +2,11 @@
 ghost use mathlib.Core.Path.{_≡_};
 ghost use Rattle.meaning.specs.Codes.{code};
 
-// "A type is `int` or `bool`".
+// "A type is `int` or `bool`"; document 02, R-2: "Add `float`".
 pub enum Kind {
     Int,
     Bool,
+    Float,
 }
 
 // "unary `-` `~` `!`".

@@ -8,13 +8,14 @@ use lib.Dec.{eqb, eqb·suc-zero}
 use lib.ListN.{length, getD, take, drop, set}
 use lib.Seq.{drop-cons}
 use Rattle.meaning.specs.declared.Kind.{Kind}
-use Rattle.meaning.specs.declared.Kind.the-variants.{Int as int, Bool as bool}
+use Rattle.meaning.specs.declared.Kind.the-variants.{Int as int, Bool as bool, Float as float}
 use Rattle.meaning.specs.Memory.{size, truth, bit, lane-of, bytes-of, number-of, little-endian}
 
 pub length-bytes : (k : Kind) (x : ℕ) → length (bytes-of k x) ≡ size k
 unfolding bytes-of size little-endian
 length-bytes int x = refl
 length-bytes bool x = refl
+length-bytes float x = refl
 
 -- "false exactly at 0"
 pub truth-is : (n : ℕ) → truth n ≡ not (eqb n 0)

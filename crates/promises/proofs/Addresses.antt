@@ -9,7 +9,7 @@ use lib.ListN.{length, drop, length-drop}
 use lib.Seq.{drop-append-add, drop-drop}
 use borrow.Author.Tests.{leb-true, leb-false}
 use Rattle.meaning.specs.declared.Kind.{Kind}
-use Rattle.meaning.specs.declared.Kind.the-variants.{Int as int, Bool as bool}
+use Rattle.meaning.specs.declared.Kind.the-variants.{Int as int, Bool as bool, Float as float}
 use Rattle.meaning.specs.Codes.{Out, ok, refused, text-limit}
 use Rattle.meaning.specs.Program.{Program}
 use Rattle.meaning.specs.Tree.{kind-number}
@@ -35,6 +35,7 @@ some-bytes : (k : Kind) (n : ℕ) → 0 < n → 0 < whole k n
 unfolding whole size
 some-bytes int n h = omega arith
 some-bytes bool n h = omega arith
+some-bytes float n h = omega arith
 
 -- Declarations in order.
 module _ {text : List ℕ} {Γ : Declarations} (order : Ordered text Γ) where
@@ -126,6 +127,7 @@ kind-low : (k : Kind) → kind-number k < 2 ^ 32
 unfolding kind-number
 kind-low int = omega arith
 kind-low bool = omega arith
+kind-low float = omega arith
 
 -- The bytes of a record.
 abbrev record-of : Declared → List ℕ
@@ -185,6 +187,7 @@ told-size : (k : Kind) → size-told (kind-number k) ≡ size k
 unfolding size-told kind-number
 told-size int = refl
 told-size bool = refl
+told-size float = refl
 
 told-span : (table : List ℕ) (x : ℕ) (d : Declared) → entry-in table x ≡ entry-of d → span-in table x ≡ span-of d
 unfolding span-in span-of entry-of whole

@@ -6,10 +6,10 @@ use Rattle.meaning.specs.Tokens.{bytes}
 use Rattle.meaning.specs.Services.{answer, judge, run, judge-call, Kept}
 use Rattle.meaning.specs.Table.{Row, judged-as, found, expected, starred}
 use Rattle.meaning.specs.Errors.{errors}
-use Rattle.meaning.specs.Requests.{near-words, long-blocks, declarations}
+use Rattle.meaning.specs.Requests.{floats, near-words, long-blocks, declarations}
 use Rattle.meaning.proofs.Table.{checked-by-hand}
 use Rattle.meaning.proofs.Errors.{none-is-made}
-use Rattle.meaning.proofs.Requests.{near-words-hold, long-blocks-hold, largest-need}
+use Rattle.meaning.proofs.Requests.{floats-hold, near-words-hold, long-blocks-hold, largest-need}
 use Rattle.laws.specs.Values.{All, no-more, and-one}
 use Rattle.promises.specs.Promise.{Delivers}
 use Rattle.promises.specs.Starred.{Serves}
@@ -40,7 +40,10 @@ starred-served = all-serve starred checked-by-hand
 pub errors-served : All Serves errors
 errors-served = all-serve errors none-is-made
 
--- So do they with document 02's cases: of R-4, "Reserved words in view", and of R-9, "Longer blocks".
+-- So do they with document 02's cases: of R-2, "Single floats", of R-4, "Reserved words in view", and of R-9, "Longer blocks".
+pub floats-served : All Serves floats
+floats-served = all-serve floats floats-hold
+
 pub near-words-served : All Serves near-words
 near-words-served = all-serve near-words near-words-hold
 

@@ -5,7 +5,7 @@ use mathlib.Core.Path.{_≡_}
 use mathlib.Core.List.{List}
 use lib.ListN.{length, drop}
 use Rattle.meaning.specs.Codes.{text-limit}
-use Rattle.meaning.specs.declared.Kind.the-variants.{Int as int, Bool as bool}
+use Rattle.meaning.specs.declared.Kind.the-variants.{Int as int, Bool as bool, Float as float}
 use Rattle.meaning.specs.Tree.{kind-number}
 use Rattle.meaning.specs.Memory.{Memory, Declared, declared, size, whole}
 use Rattle.meaning.specs.Services.{Answer, judge-call, run-call, variables-call, Kept}
@@ -76,10 +76,12 @@ entry-in table x =
     let l = drop (record-bytes * x) table in
     record { place = number-at 0 l; kind = number-at 1 l; lanes = number-at 2 l; address = number-at 3 l }
 
--- "An int is 4 bytes .. a bool is one byte": by the number of the kind, 0 for an int.
+-- "An int is 4 bytes .. a bool is one byte"; document 02, R-2: "`float`, 4 bytes". By the number of the kind: 0 for an int, 1 for a
+-- bool, 2 for a float.
 unfoldable pub size-told : ℕ → ℕ
 size-told zero = size int
-size-told (suc n) = size bool
+size-told (suc zero) = size bool
+size-told (suc (suc n)) = size float
 
 -- Where the bytes of variable x lie, by its record in a table.
 unfoldable pub span-in : List ℕ → ℕ → Span

@@ -26,7 +26,8 @@ infix 70 _gets_at_
 unfoldable pub _gets_at_ : List ℕ → ℕ → ℕ → List ℕ × (ℕ × ℕ)
 _gets_at_ text c p = (text, (c, p))
 
--- `-` pending in parentheses; `{` and `;` as a body; parentheses in a condition; a token missing.
+-- `-` pending in parentheses; `{` and `;` as a body; parentheses in a condition; a token missing; a float's constant where a number has to
+-- stand.
 unfoldable pub rows : List (List ℕ × (ℕ × ℕ))
 rows =
     (bytes "x = " ++ many 31 "(" ++ bytes "-1" ++ many 31 ")" ++ bytes ";") gets 0 at 0
@@ -40,6 +41,8 @@ rows =
     ∷ (bytes "if (" ++ many 32 "(" ++ bytes "b" ++ many 32 ")" ++ bytes ") ; else ;") gets 4 at 35
     ∷ (bytes "int block x;") gets 3 at 10
     ∷ (bytes "int block[n] x;") gets 3 at 10
+    ∷ (bytes "float block[1.0] x;") gets 3 at 12
+    ∷ (bytes "if (b) float x = -1.0; else ;") gets 0 at 0
     ∷ (bytes "x == 1;") gets 3 at 2
     ∷ (bytes "if (b) ; ") gets 3 at 9
     ∷ []

@@ -10,7 +10,7 @@ use lib.ListN.{length, length-append}
 use lib.Seq.{sets, length-sets}
 use borrow.Author.Tests.{eq-eqb, ne-eqb}
 use Rattle.meaning.specs.declared.Kind.{Kind}
-use Rattle.meaning.specs.declared.Kind.the-variants.{Int as int, Bool as bool}
+use Rattle.meaning.specs.declared.Kind.the-variants.{Int as int, Bool as bool, Float as float}
 use Rattle.meaning.specs.declared.Refusal.{Refusal}
 use Rattle.meaning.specs.declared.Refusal.the-variants.{NotAllowed, TooDeep}
 use Rattle.meaning.specs.Codes.{Out, ok, refused, after, _>>=_, give, repeat, _among_}
@@ -65,6 +65,7 @@ module _ {ts : List Token} {at k p v : ℕ} (r : ℕ) (t : Seen ts at k p v) whe
       go : (kd : Kind) → k ≡ kind-tag kd → statement ts r at ≡ declaration ts r kd (token-at ts at) (at + 1)
       go int e = rw (statement-is, add-one, t .is, e)
       go bool e = rw (statement-is, add-one, t .is, e)
+      go float e = rw (statement-is, add-one, t .is, e)
 
   pub read-assignment : k ≡ the "name" → statement ts r at ≡ assignment ts r (token-at ts at) (at + 1)
   unfolding statement-over choose look next _⇒_ kinds the numbered reserved signs words marks
@@ -84,11 +85,11 @@ module _ {ts : List Token} {at k p v : ℕ} (r : ℕ) (t : Seen ts at k p v) whe
   read-scalar e = rw (statement-is, add-one, t .is, e, t .place)
 
   -- A token of another kind, w, is refused.
-  pub read-none : {w : ℕ} → w ≡ k → (w ≡ 52 → ⊥) → (w ≡ 53 → ⊥) → (w ≡ 16 → ⊥) → (w ≡ 17 → ⊥) → (w ≡ 2 → ⊥) → (w ≡ 19 → ⊥) → (w ≡ 21 → ⊥) → (w ≡ 22 → ⊥)
-      → statement ts r at ≡ refused NotAllowed p
+  pub read-none : {w : ℕ} → w ≡ k → (w ≡ 52 → ⊥) → (w ≡ 53 → ⊥) → (w ≡ 16 → ⊥) → (w ≡ 17 → ⊥) → (w ≡ 26 → ⊥) → (w ≡ 2 → ⊥) → (w ≡ 19 → ⊥) → (w ≡ 21 → ⊥)
+      → (w ≡ 22 → ⊥) → statement ts r at ≡ refused NotAllowed p
   unfolding statement-over choose look next _⇒_ kinds the numbered reserved signs words marks
-  read-none {w} is a b c d e f g h =
-      rw (statement-is, t .is, ← is, ne-eqb w 52 a, ne-eqb w 53 b, ne-eqb w 16 c, ne-eqb w 17 d, ne-eqb w 2 e, ne-eqb w 19 f, ne-eqb w 21 g, ne-eqb w 22 h, t .place)
+  read-none {w} is a b c d e f g h i =
+      rw (statement-is, t .is, ← is, ne-eqb w 52 a, ne-eqb w 53 b, ne-eqb w 16 c, ne-eqb w 17 d, ne-eqb w 26 e, ne-eqb w 2 f, ne-eqb w 19 g, ne-eqb w 21 h, ne-eqb w 22 i, t .place)
 
 -- One act after two others.
 pub after-both : {A B C : Type 0} (o : Out ℕ A) (f : A → Reads B) (g : B → Reads C) → after o (λ a q. after (f a q) g) ≡ after (after o f) g

@@ -1,5 +1,6 @@
 -- How the definitions read a value, an assignment and a declaration: one law for each way through the code.
 use Prim.Native.Nat.{ℕ, _+_, _-_, _<_, _≤_}
+use mathlib.Core.Logic.{inl}
 use mathlib.Core.Path.{_≡_, refl, _∙_}
 use mathlib.Core.Bool.{Bool, true, false}
 use mathlib.Core.List.{List, [], _∷_, _++_}
@@ -11,7 +12,7 @@ use lib.ListN.{length}
 use lib.Seq.{sets, length-sets}
 use borrow.Author.Tests.{ne-eqb}
 use Rattle.meaning.specs.declared.Kind.{Kind}
-use Rattle.meaning.specs.declared.Kind.the-variants.{Int as int, Bool as bool}
+use Rattle.meaning.specs.declared.Kind.the-variants.{Int as int, Bool as bool, Float as float}
 use Rattle.meaning.specs.declared.Refusal.{Refusal}
 use Rattle.meaning.specs.declared.Refusal.the-variants.{NotAllowed}
 use Rattle.meaning.specs.Codes.{Out, ok, refused, after, _>>=_, give}
@@ -150,16 +151,17 @@ module _ {ts : List Token} {at k p v name size place k′ p′ v′ : ℕ} (r : 
     pub declared-refused : {c : Refusal} {x : ℕ} → initial ts r (name + 1) ≡ refused c x → statement ts r at ≡ refused c x
     declared-refused e = rw (declares, e)
 
-    pub declared-read : {old mid put new : List ℕ} {n x q : ℕ} → n + 6 ≤ length old → q ≤ length mid
+    -- The tag is the first token's kind.
+    pub declared-read : {old mid put new : List ℕ} {n x q tag : ℕ} → tag ≡ k → n + 6 ≤ length old → q ≤ length mid
         → Read (initial ts r (name + 1)) (λ w. unit v′ (value-place w) 0 ++ value-words w) old (n + 6) mid x q → put ≡ sets mid (n + 3) (unit size place p′)
-        → new ≡ with-head k p n q put → Read (statement ts r at) flat-stmt old n new x q
+        → new ≡ with-head tag p n q put → Read (statement ts r at) flat-stmt old n new x q
     unfolding flat-stmt
-    declared-read {n = n} le le′ i in-put in-new = let six : n + 6 ≡ n + 3 + 3 = omega arith in record {
+    declared-read {n = n} same le le′ i in-put in-new = let six : n + 6 ≡ n + 3 + 3 = omega arith in record {
       what = declare p (d .kind) (b .what) p′ ((token-at ts name) .spelled) (i .what);
       is = rw (declares, i .is);
       wrote = rw (b .size-is, b .place-is, ← d .is, ← t′ .end is)
           (appends-headed k p (unit size place p′ ++ unit v′ (value-place (i .what)) 0) (value-words (i .what)) (omega arith) (rw (in-put, length-sets) le′)
-          (appends-unit (omega arith) le′ (rw six at (i .wrote)) in-put) in-new);
+          (appends-unit (omega arith) le′ (rw six at (i .wrote)) in-put) (rw same at in-new));
     }
 
 -- The type of a declaration: perhaps `block[N]`, whose tokens are looked at one after another.
@@ -191,7 +193,7 @@ module _ {ts : List Token} {at k p v : ℕ} (t : Seen ts at k p v) where
         unfolding the numbered reserved signs words marks block-length block-place
         block-read close-is = record {
           what = some (v₂, p₂);
-          is = rw (block-is, expected "[" t₁ open-is, expected "number" t₂ number-is, expected "]" t₃ close-is, t₂ .value number-is, t₂ .place);
+          is = rw (block-is, expected "[" t₁ open-is, expected "number" t₂ number-is, expected "]" t₃ close-is, t₂ .value (inl number-is), t₂ .place);
           size-is = refl;
           place-is = refl;
         }
@@ -208,6 +210,7 @@ declares-above k d = go (d .kind) (d .is)
     go : (kd : Kind) → k ≡ kind-tag kd → 0 < k
     go int e = omega arith
     go bool e = omega arith
+    go float e = omega arith
 
 -- What `block` answers, from the answers of `expect` at its tokens.
 module _ {T : List ℕ} {at : ℕ} (text : Ends-a-text T) (lt : at < token-count T) (word : kind-at T at ≡ 18) where

@@ -5,7 +5,7 @@ use mathlib.Core.List.{List, [], _++_}
 use mathlib.Core.Option.{Option, none, some}
 use native.Mathlib.Omega.{arith}
 use lib.ListN.{length, length-append}
-use Rattle.meaning.specs.Tree.{Expr, number, boolean, name, current-mask, unary, binary, Stmt, empty, braces, declare, assign, if-else, while, scalar, Stmts, none-yet, _⨾_}
+use Rattle.meaning.specs.Tree.{Expr, number, float-number, boolean, name, current-mask, unary, binary, Stmt, empty, braces, declare, assign, if-else, while, scalar, Stmts, none-yet, _⨾_}
 use Rattle.layout.specs.Words.{unit, headed, flat, value-words, flat-stmt, flat-stmts}
 
 -- Words that are `least` units or more.
@@ -29,6 +29,7 @@ fewer le u = record { count = u .count; enough = omega arith; are = u .are }
 pub expression-units : (e : Expr) → Units 1 (flat e)
 unfolding flat
 expression-units (number n) = one _ n 0
+expression-units (float-number n) = one _ n 0
 expression-units (boolean b) = one _ 0 0
 expression-units (name p x) = one _ p _
 expression-units current-mask = one _ 0 0

@@ -70,6 +70,7 @@ fn may_begin(kind: u32) -> bool
         | (kind == token::OPEN_BRACE)
         | (kind == token::INT)
         | (kind == token::BOOL)
+        | (kind == token::FLOAT)
         | (kind == token::NAME)
         | (kind == token::IF)
         | (kind == token::WHILE)
@@ -366,6 +367,7 @@ fn statement(tokens: &[u32], at: usize, room: u32, tree: &mut [u32], size: usize
         token::OPEN_BRACE => braces(tokens, at, room, tree, size),
         token::INT => declaration(tokens, at, room, tree, size),
         token::BOOL => declaration(tokens, at, room, tree, size),
+        token::FLOAT => declaration(tokens, at, room, tree, size),
         token::NAME => assignment(tokens, at, room, tree, size),
         token::IF => if_else(tokens, at, room, tree, size),
         token::WHILE => while_loop(tokens, at, room, tree, size),

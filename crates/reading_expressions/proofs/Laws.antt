@@ -1,6 +1,7 @@
 -- How the definitions read an expression: one law for each way through the code.
 use Prim.Native.Nat.{ℕ, zero, suc, _+_, _-_, _≤_, _<_}
 use Prim.Native.String.{String}
+use mathlib.Core.Logic.{_⊎_, inl, inr}
 use mathlib.Core.Path.{_≡_, refl, sym, _∙_}
 use mathlib.Core.Bool.{Bool, true, false, _||_}
 use mathlib.Core.List.{List, [], _∷_, map}
@@ -19,18 +20,27 @@ use Rattle.meaning.specs.Tokens.{Token, the, words, marks, numbered, reserved, 
 use Rattle.meaning.specs.declared.Unary.{Unary}
 use Rattle.meaning.specs.declared.Unary.the-variants.{Neg as neg, Inv as inv, Not as not}
 use Rattle.meaning.specs.declared.Binary.{Binary}
-use Rattle.meaning.specs.Tree.{table, unary-table, levels, Expr, number, boolean, name, current-mask, unary, binary}
+use Rattle.meaning.specs.Tree.{table, unary-table, levels, Expr, number, float-number, boolean, name, current-mask, unary, binary}
 use Rattle.meaning.specs.Reading.{Reads, After, _⇒_, operator, look, next, choose, expect, as-long, more, binaries, operand, no-room, closed, unaries, expression, parenthesised}
 use Rattle.layout.specs.Tokens.{kind-at, place-at, value-at}
 use Rattle.layout.specs.Words.{unit, flat, boolean-tag, unary-tag, binary-tag}
 use Rattle.reading_expressions.proofs.Answers.{Leaf, held-count, So-far, turn-left, appends-then}
 use Rattle.reading_expressions.specs.Contract.{Holds-only, token-count, Appends, Read, token-at, from-level, signs-at, some?, joins-at, Level}
 
+-- A kind of constants: of a number, or of a float.
+abbrev pub Constant : ℕ → Type 0
+Constant k = (k ≡ 1) ⊎ (k ≡ 3)
+
+-- It is not the end of the text.
+pub constant-above : {k : ℕ} → Constant k → 0 < k
+constant-above (inl e) = omega arith
+constant-above (inr e) = omega arith
+
 -- The token at a position: what it is, its place, and its value.
 pub record Seen (ts : List Token) (at k p v : ℕ) : Type 0 where
   pub is : (token-at ts at) .is ≡ k
   pub place : (token-at ts at) .place ≡ p
-  pub value : k ≡ 1 → (token-at ts at) .value ≡ v
+  pub value : Constant k → (token-at ts at) .value ≡ v
   pub end : k ≡ 2 → v ≡ p + length ((token-at ts at) .spelled)
 
 -- It is what the buffers have there.
@@ -38,7 +48,12 @@ pub seen : {T : List ℕ} {ts : List Token} {at : ℕ} → Holds-only T ts → a
 unfolding the words marks numbered reserved signs
 seen {at = at} h lt =
     let t = h .holds .row at (omega (arith, held-count h)) in
-    record { is = sym (t .is); place = sym (t .at); value = λ e. sym (t .worth (sym (t .is) ∙ e)); end = λ e. rw (t .at) (t .end (sym (t .is) ∙ e)) }
+    record {
+      is = sym (t .is);
+      place = sym (t .at);
+      value = λ e. elim e [ inl is ↦ sym (t .worth (sym (t .is) ∙ is)) | inr is ↦ sym (t .pattern (sym (t .is) ∙ is)) ];
+      end = λ e. rw (t .at) (t .end (sym (t .is) ∙ e));
+    }
 
 -- What a unary operator's operand is, one level deeper.
 unfoldable pub deeper : (ts : List Token) → ℕ → After Expr
@@ -93,9 +108,11 @@ no-sign k e = go (eqb k 63) (eqb k 68) (eqb k 69) e
     go false false false e = (refl, refl, refl)
 
 module _ {ts : List Token} {at k p v : ℕ} (r : ℕ) (t : Seen ts at k p v) where
-  pub read-number : k ≡ 1 → Leaf flat (unaries ts r at) (at + 1) 1 v 0
+  -- A constant, of a kind w, which is its tag.
+  pub read-constant : {w : ℕ} → w ≡ k → Constant w → Leaf flat (unaries ts r at) (at + 1) w v 0
   unfolding operand choose look next _⇒_ the numbered reserved signs words marks unary-table flat
-  read-number e = record { what = number v; is = rw (unaries-is, add-one, t .is, e, t .value e); words = refl }
+  read-constant is (inl e) = record { what = number v; is = rw (unaries-is, add-one, t .is, ← is, e, t .value (inl (sym is ∙ e))); words = rw e }
+  read-constant is (inr e) = record { what = float-number v; is = rw (unaries-is, add-one, t .is, ← is, e, t .value (inr (sym is ∙ e))); words = rw e }
 
   pub read-name : k ≡ 2 → Leaf flat (unaries ts r at) (at + 1) 2 p v
   unfolding operand choose look next _⇒_ the numbered reserved signs words marks unary-table flat
@@ -133,13 +150,28 @@ module _ {ts : List Token} {at k p v : ℕ} (r : ℕ) (t : Seen ts at k p v) whe
   read-leaf unsigned shut =
       let u = no-sign k unsigned in rw (unaries-is ts r at, unaries-is ts 0 at, t .is, u .0, u .1, u .2, ne-eqb k 55 shut)
 
-  -- Any other token.
   -- Any other token, of a kind w, is refused.
-  pub read-none : {w : ℕ} → w ≡ k → (w ≡ 1 → ⊥) → (w ≡ 24 → ⊥) → (w ≡ 25 → ⊥) → (w ≡ 2 → ⊥) → (w ≡ 23 → ⊥) → signs-at k ≡ false → (k ≡ the "(" → ⊥) → unaries ts r at ≡ refused NotAllowed p
+  pub read-none : {w : ℕ} → w ≡ k → (Constant w → ⊥) → (w ≡ 24 → ⊥) → (w ≡ 25 → ⊥) → (w ≡ 2 → ⊥) → (w ≡ 23 → ⊥)
+      → signs-at k ≡ false → (k ≡ the "(" → ⊥) → unaries ts r at ≡ refused NotAllowed p
   unfolding operand choose look next _⇒_ the numbered reserved signs words marks unary-table
   read-none {w} is a b c d e unsigned shut =
       let u = no-sign k unsigned in
-      rw (unaries-is, t .is, u .0, u .1, u .2, ne-eqb k 55 shut, ← is, ne-eqb w 1 a, ne-eqb w 24 b, ne-eqb w 25 c, ne-eqb w 2 d, ne-eqb w 23 e, t .place)
+      rw (
+        unaries-is,
+        t .is,
+        u .0,
+        u .1,
+        u .2,
+        ne-eqb k 55 shut,
+        ← is,
+        ne-eqb w 1 (λ e. a (inl e)),
+        ne-eqb w 3 (λ e. a (inr e)),
+        ne-eqb w 24 b,
+        ne-eqb w 25 c,
+        ne-eqb w 2 d,
+        ne-eqb w 23 e,
+        t .place,
+      )
 
 -- A token that has to be of one kind.
 module _ {ts : List Token} {at k p v : ℕ} (s : String) (t : Seen ts at k p v) where

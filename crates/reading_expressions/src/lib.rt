@@ -109,7 +109,7 @@ fn signs(kind: u32) -> bool
     (kind == token::MINUS) | (kind == token::INVERSE) | (kind == token::NOT)
 }
 
-// Reads an operand of one token, which opens no level.
+// Reads an operand of one token, which opens no level. The tag of a number or of a float's constant is its token's kind.
 fn leaf(tokens: &[u32], at: usize, tree: &mut [u32], size: usize) -> Stage
     requires { ⌜ Ready-to-read (now tokens) at (now tree) size ⌝ }
     requires { ⌜ (signs-at (kind-at (now tokens) at) ≡ false) × (kind-at (now tokens) at ≡ the "(" → ⊥) ⌝ }
@@ -117,7 +117,9 @@ fn leaf(tokens: &[u32], at: usize, tree: &mut [u32], size: usize) -> Stage
 {
     let kind = token::kind(tokens, at);
     match kind {
-        token::NUMBER => node(tree, size, tag::NUMBER, token::value(tokens, at), 0, at + 1),
+        token::NUMBER | token::FLOAT_NUMBER => {
+            node(tree, size, kind, token::value(tokens, at), 0, at + 1)
+        }
         token::TRUE => node(tree, size, tag::TRUE, 0, 0, at + 1),
         token::FALSE => node(tree, size, tag::FALSE, 0, 0, at + 1),
         token::NAME => node(

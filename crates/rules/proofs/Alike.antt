@@ -10,7 +10,7 @@ use Rattle.meaning.specs.Typing.{shut}
 use Rattle.laws.specs.Declarations.{Alike, none-yet as none-alike, both-more}
 use Rattle.laws.proofs.Declarations.{alike-declared}
 use Rattle.rules.specs.Scopes.{Scope, _means_, start, opened, beyond, past, past-all}
-use Rattle.rules.specs.Evaluation.{_∣_∣_⊢_⇒⟨_∣_⟩, E-NUMBER, E-BOOLEAN, E-VAR, E-MASK, E-UNARY, E-BINARY, _∣_∣_⊢_≔⟨_∣_⟩_, E-ASSIGN, E-BROADCAST, End, _∣_∣_⊢_⇓_after_, _∣_∣_⊢_↓_after_, _∣_∣_⊢*_↓_after_, E-SKIP, E-SCOPE, E-DECL, E-INIT, E-STORE, E-IF, E-WHILE, E-SCALAR, DUE, IF-DUE, E-NONE, E-SEQUENCE, SEQUENCE-DUE, E-INACTIVE, E-ACTIVE, While, LEAVE, AGAIN, TEST-DUE, BODY-DUE}
+use Rattle.rules.specs.Evaluation.{_∣_∣_⊢_⇒⟨_∣_⟩, E-NUMBER, E-FLOAT, E-BOOLEAN, E-VAR, E-MASK, E-UNARY, E-BINARY, _∣_∣_⊢_≔⟨_∣_⟩_, E-ASSIGN, E-BROADCAST, End, _∣_∣_⊢_⇓_after_, _∣_∣_⊢_↓_after_, _∣_∣_⊢*_↓_after_, E-SKIP, E-SCOPE, E-DECL, E-INIT, E-STORE, E-IF, E-WHILE, E-SCALAR, DUE, IF-DUE, E-NONE, E-SEQUENCE, SEQUENCE-DUE, E-INACTIVE, E-ACTIVE, While, LEAVE, AGAIN, TEST-DUE, BODY-DUE}
 use Rattle.rules.proofs.Programs.{past-all-table}
 
 pub alike-back : {Γ Δ : Declarations} → Alike Γ Δ → Alike Δ Γ
@@ -63,6 +63,7 @@ module _ (Δ : Declarations) where
       σ ∣ m ∣ M ⊢ e ⇒⟨ k ∣ v ⟩ → over σ ∣ m ∣ M ⊢ e ⇒⟨ k ∣ v ⟩
   unfolding over _means_
   value-over a E-NUMBER = E-NUMBER
+  value-over a E-FLOAT = E-FLOAT
   value-over a E-BOOLEAN = E-BOOLEAN
   value-over {M} a (E-VAR {i = i} h f) =
       rw (← same-kind a i, ← same-fetch a M i) (E-VAR h (rw (same-lanes a i) f))

@@ -10,7 +10,7 @@ use Rattle.meaning.specs.Tree.{Expr, Stmt, Stmts}
 use Rattle.meaning.specs.Typing.{joined, gives-kind}
 use Rattle.meaning.specs.Memory.{Memory, Value, Mask}
 use Rattle.meaning.specs.Running.{some-lane}
-use Rattle.rules.specs.Typing.{Names, _∣_⊢_∶⟨_∣_⟩, T-NUMBER, T-BOOLEAN, T-VAR, T-MASK, T-UNARY, T-BINARY, _∣_⊢_⊣_, T-SKIP, T-SCOPE, T-DECL, T-INIT, T-ASSIGN, T-BROADCAST, T-IF, T-WHILE, T-SCALAR, _∣_⊢*_⊣_, T-NONE, T-SEQUENCE}
+use Rattle.rules.specs.Typing.{Names, _∣_⊢_∶⟨_∣_⟩, T-NUMBER, T-FLOAT, T-BOOLEAN, T-VAR, T-MASK, T-UNARY, T-BINARY, _∣_⊢_⊣_, T-SKIP, T-SCOPE, T-DECL, T-INIT, T-ASSIGN, T-BROADCAST, T-IF, T-WHILE, T-SCALAR, _∣_⊢*_⊣_, T-NONE, T-SEQUENCE}
 use Rattle.rules.specs.Scopes.{Scope}
 use Rattle.rules.specs.Evaluation.{_∣_∣_⊢_⇒⟨_∣_⟩, _∣_∣_⊢*_↓_after_, End, ended, due}
 use Rattle.rules.proofs.Operators.{in-table}
@@ -25,6 +25,7 @@ one-entry e e′ = cc
 pub one-type : {Γ : Names} {C n n′ : ℕ} {e : Expr} {k k′ : Kind} → Γ ∣ C ⊢ e ∶⟨ k ∣ n ⟩ → Γ ∣ C ⊢ e ∶⟨ k′ ∣ n′ ⟩ →
     (k ≡ k′) × (n ≡ n′)
 one-type T-NUMBER T-NUMBER = (refl, refl)
+one-type T-FLOAT T-FLOAT = (refl, refl)
 one-type T-BOOLEAN T-BOOLEAN = (refl, refl)
 one-type (T-VAR e m) (T-VAR e′ m′) = let same = one-entry e e′ in (ap (λ t. t .0) same, ap (λ t. t .1) same)
 one-type T-MASK T-MASK = (refl, refl)

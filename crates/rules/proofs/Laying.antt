@@ -7,7 +7,7 @@ use native.Mathlib.Omega.{arith}
 use lib.ListN.{length}
 use native.Mathlib.Nat.{div-add-mod', mod-lt, div-lt-iff-lt-mul, mul-le-mul-right}
 use Rattle.meaning.specs.declared.Kind.{Kind}
-use Rattle.meaning.specs.declared.Kind.the-variants.{Int as int, Bool as bool}
+use Rattle.meaning.specs.declared.Kind.the-variants.{Int as int, Bool as bool, Float as float}
 use Rattle.meaning.specs.Tree.{Name}
 use Rattle.meaning.specs.Memory.{Declared, Declarations, declared, whole, size, next-multiple, need}
 use Rattle.meaning.specs.Typing.{with-one, shut}
@@ -109,6 +109,7 @@ some-bytes : (k : Kind) (n : ℕ) → 0 < n → 0 < whole k n
 unfolding whole size
 some-bytes int n h = omega arith
 some-bytes bool n h = omega arith
+some-bytes float n h = omega arith
 
 -- An act of typing adds the variables l behind those before.
 pub record Adds (l : List Variable) (Γ Γ′ : Declarations) : Type 0 where

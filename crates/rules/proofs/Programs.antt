@@ -4,15 +4,15 @@ use mathlib.Core.Path.{_≡_, refl, ap, sym, _∙_}
 use mathlib.Core.Bool.{true}
 use mathlib.Core.Option.{none, some}
 use Rattle.meaning.specs.declared.Kind.{Kind}
-use Rattle.meaning.specs.declared.Kind.the-variants.{Int as int, Bool as bool}
+use Rattle.meaning.specs.declared.Kind.the-variants.{Int as int, Bool as bool, Float as float}
 use Rattle.meaning.specs.Codes.{option}
-use Rattle.meaning.specs.Tree.{Name, table, Expr, number, boolean, name, current-mask, unary, binary, Stmt, empty, braces, declare, assign, if-else, while, scalar, Stmts, none-yet, _⨾_}
+use Rattle.meaning.specs.Tree.{Name, table, Expr, number, float-number, boolean, name, current-mask, unary, binary, Stmt, empty, braces, declare, assign, if-else, while, scalar, Stmts, none-yet, _⨾_}
 use Rattle.meaning.specs.Program.{Code, constant, variable, the-mask, one, two, Program, nothing, step, put, both, choice, cycle, alone}
 use Rattle.meaning.specs.Memory.{Memory, Value, Mask, declared, bit}
 use Rattle.meaning.specs.Running.{some-lane}
 use Rattle.meaning.specs.Typing.{gives-kind}
 use Rattle.rules.specs.Scopes.{Scope, _means_, opened, beyond, past, past-all, declarations}
-use Rattle.rules.specs.Evaluation.{_∣_∣_⊢_⇒⟨_∣_⟩, _∣_∣_⊢_≔⟨_∣_⟩_, E-ASSIGN, E-BROADCAST, E-NUMBER, E-BOOLEAN, E-VAR, E-MASK, E-UNARY, E-BINARY, End, ended, Costs, empty-costs, declare-costs, assign-costs, if-costs, _∣_∣_⊢*_↓_after_, E-SKIP, E-SCOPE, E-DECL, E-INIT, E-STORE, E-IF, E-WHILE, E-SCALAR, DUE, IF-DUE, E-NONE, E-SEQUENCE, SEQUENCE-DUE, E-INACTIVE, E-ACTIVE, LEAVE, AGAIN, TEST-DUE, BODY-DUE}
+use Rattle.rules.specs.Evaluation.{_∣_∣_⊢_⇒⟨_∣_⟩, _∣_∣_⊢_≔⟨_∣_⟩_, E-ASSIGN, E-BROADCAST, E-NUMBER, E-FLOAT, E-BOOLEAN, E-VAR, E-MASK, E-UNARY, E-BINARY, End, ended, Costs, empty-costs, declare-costs, assign-costs, if-costs, _∣_∣_⊢*_↓_after_, E-SKIP, E-SCOPE, E-DECL, E-INIT, E-STORE, E-IF, E-WHILE, E-SCALAR, DUE, IF-DUE, E-NONE, E-SEQUENCE, SEQUENCE-DUE, E-INACTIVE, E-ACTIVE, LEAVE, AGAIN, TEST-DUE, BODY-DUE}
 use Rattle.rules.proofs.Operators.{in-table}
 use Rattle.rules.proofs.Resolved.{_∣_∣_▹_⇒_, R-CONST, R-VAR, R-MASK, R-UNARY, R-BINARY, Costly, step-costs, put-costs, choice-costs, _∣_∣_▹_⇓_after_, R-INACTIVE, R-ACTIVE, _∣_∣_▹_↓_after_, R-NOTHING, R-DECL, R-ASSIGN, R-BROADCAST, R-SEQUENCE, R-IF, R-WHILE, R-SCALAR, R-DUE, R-SEQUENCE-DUE, R-IF-DUE, Loop, R-LEAVE, R-AGAIN, R-TEST-DUE, R-BODY-DUE}
 
@@ -22,6 +22,7 @@ number-of σ x = option 0 (λ i. i) (σ means x)
 
 unfoldable pub kind : Scope → Expr → Kind
 kind σ (number n) = int
+kind σ (float-number n) = float
 kind σ (boolean b) = bool
 kind σ (name p x) = (declared (σ .table) (number-of σ x)) .kind
 kind σ current-mask = bool
@@ -30,6 +31,7 @@ kind σ (binary p o e e′) = gives-kind ((table o) .2) (kind σ e)
 
 unfoldable pub code : Scope → Expr → Code
 code σ (number n) = constant n
+code σ (float-number n) = constant n
 code σ (boolean b) = constant (bit b)
 code σ (name p x) = variable (number-of σ x)
 code σ current-mask = the-mask
@@ -75,6 +77,7 @@ pub to-code : {σ : Scope} {m : Mask} {M : Memory} {e : Expr} {k : Kind} {v : Va
     (k ≡ kind σ e) × (σ .table ∣ m ∣ M ▹ code σ e ⇒ v)
 unfolding kind code
 to-code E-NUMBER = (refl, R-CONST)
+to-code E-FLOAT = (refl, R-CONST)
 to-code E-BOOLEAN = (refl, R-CONST)
 to-code {σ} (E-VAR {x = x} h f) =
     (ap (λ i. (declared (σ .table) i) .kind) (sym (the-number σ x h)), rw (the-number σ x h) (R-VAR f))

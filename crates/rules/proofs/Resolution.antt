@@ -4,10 +4,10 @@ use mathlib.Core.Path.{_≡_, refl, ap, sym, _∙_}
 use mathlib.Core.Bool.{Bool, true, true≢false}
 use mathlib.Core.Option.{none, some}
 use Rattle.meaning.specs.declared.Kind.{Kind}
-use Rattle.meaning.specs.declared.Kind.the-variants.{Int as int, Bool as bool}
+use Rattle.meaning.specs.declared.Kind.the-variants.{Int as int, Bool as bool, Float as float}
 use Rattle.meaning.specs.declared.Unary.{Unary}
 use Rattle.meaning.specs.declared.Binary.{Binary}
-use Rattle.meaning.specs.Tree.{Name, table, Expr, number, boolean, name, current-mask, unary, binary, Block, Stmt, empty, braces, declare, assign, if-else, while, scalar, Stmts, none-yet, _⨾_}
+use Rattle.meaning.specs.Tree.{Name, table, Expr, number, float-number, boolean, name, current-mask, unary, binary, Block, Stmt, empty, braces, declare, assign, if-else, while, scalar, Stmts, none-yet, _⨾_}
 use Rattle.meaning.specs.Program.{Code, constant, variable, the-mask, one, two, Program, nothing, step, put, both, choice, cycle, alone}
 use Rattle.meaning.specs.Memory.{Memory, Value, Mask, Declarations, declared, bit}
 use Rattle.meaning.specs.Running.{some-lane}
@@ -15,7 +15,7 @@ use Rattle.meaning.specs.Typing.{gives-kind}
 use Rattle.rules.specs.Operators.{_takes_, _takes-two_gives_}
 use Rattle.rules.specs.Scopes.{Scope, _means_, beyond, past-all, declarations}
 use Rattle.rules.specs.Evaluation
-use Rattle.rules.specs.Evaluation.{_∣_∣_⊢_⇒⟨_∣_⟩, E-NUMBER, E-BOOLEAN, E-VAR, E-MASK, E-UNARY, E-BINARY, E-ASSIGN, E-BROADCAST, End, empty-costs, declare-costs, assign-costs, if-costs, _∣_∣_⊢_⇓_after_, _∣_∣_⊢_↓_after_, _∣_∣_⊢*_↓_after_, E-SKIP, E-SCOPE, E-DECL, E-INIT, E-STORE, E-IF, E-WHILE, E-SCALAR, DUE, IF-DUE, E-NONE, E-SEQUENCE, SEQUENCE-DUE, E-INACTIVE, E-ACTIVE, While, LEAVE, AGAIN, TEST-DUE, BODY-DUE}
+use Rattle.rules.specs.Evaluation.{_∣_∣_⊢_⇒⟨_∣_⟩, E-NUMBER, E-FLOAT, E-BOOLEAN, E-VAR, E-MASK, E-UNARY, E-BINARY, E-ASSIGN, E-BROADCAST, End, empty-costs, declare-costs, assign-costs, if-costs, _∣_∣_⊢_⇓_after_, _∣_∣_⊢_↓_after_, _∣_∣_⊢*_↓_after_, E-SKIP, E-SCOPE, E-DECL, E-INIT, E-STORE, E-IF, E-WHILE, E-SCALAR, DUE, IF-DUE, E-NONE, E-SEQUENCE, SEQUENCE-DUE, E-INACTIVE, E-ACTIVE, While, LEAVE, AGAIN, TEST-DUE, BODY-DUE}
 use Rattle.rules.proofs.Operators.{in-table}
 use Rattle.rules.proofs.Programs.{the-number, kind, code, program, programs, past-all-table}
 use Rattle.rules.proofs.Resolved.{_∣_∣_▹_⇒_, R-CONST, R-VAR, R-MASK, R-UNARY, R-BINARY, step-costs, put-costs, choice-costs, _∣_∣_▹_⇓_after_, R-INACTIVE, R-ACTIVE, _∣_∣_▹_↓_after_, R-NOTHING, R-DECL, R-ASSIGN, R-BROADCAST, R-SEQUENCE, R-IF, R-WHILE, R-SCALAR, R-DUE, R-SEQUENCE-DUE, R-IF-DUE, Loop, R-LEAVE, R-AGAIN, R-TEST-DUE, R-BODY-DUE}
@@ -55,6 +55,13 @@ module _ {σ : Scope} where
     where
       from : From-value σ (number n) (constant n) int
       from m M v R-CONST = E-NUMBER
+
+  pub same-float : {n : ℕ} → Same-value σ (float-number n) (constant n) float
+  unfolding kind code
+  same-float {n} = record { is-kind = refl; is-code = refl; from = from }
+    where
+      from : From-value σ (float-number n) (constant n) float
+      from m M v R-CONST = E-FLOAT
 
   pub same-boolean : {c : Bool} → Same-value σ (boolean c) (constant (bit c)) bool
   unfolding kind code

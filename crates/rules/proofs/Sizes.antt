@@ -12,7 +12,7 @@ use Rattle.meaning.specs.Tokens.{equal}
 use Rattle.meaning.specs.Tree.{Name, Expr, Block}
 use Rattle.meaning.specs.Typing.{joined, lanes-or}
 use Rattle.laws.proofs.Declarations.{listed-some}
-use Rattle.rules.specs.Typing.{Names, _at_, Listed, no-block, block, _∣_⊢_∶⟨_∣_⟩, T-NUMBER, T-BOOLEAN, T-VAR, T-MASK, T-UNARY, T-BINARY}
+use Rattle.rules.specs.Typing.{Names, _at_, Listed, no-block, block, _∣_⊢_∶⟨_∣_⟩, T-NUMBER, T-FLOAT, T-BOOLEAN, T-VAR, T-MASK, T-UNARY, T-BINARY}
 
 -- The length of every name is above 0.
 pub data Sized : Names → Type 0 where
@@ -47,6 +47,7 @@ some-joined n m h g = go (eqb n 1)
 
 pub some-length : {N : Names} {C n : ℕ} {e : Expr} {k : Kind} → Sized N → 0 < C → N ∣ C ⊢ e ∶⟨ k ∣ n ⟩ → 0 < n
 some-length s c T-NUMBER = omega arith
+some-length s c T-FLOAT = omega arith
 some-length s c T-BOOLEAN = omega arith
 some-length s c (T-VAR {x = x} e m) = sized-at x s e
 some-length s c T-MASK = c

@@ -6,7 +6,7 @@ use lib.ListN.{length, length-map}
 use Rattle.meaning.specs.declared.Kind.{Kind}
 use Rattle.meaning.specs.declared.Kind.the-variants.{Bool as bool}
 use Rattle.meaning.specs.declared.Refusal.the-variants.{WrongKind, WrongLength}
-use Rattle.meaning.specs.Tree.{Name, same-kind, _one-of_, Block, table, unary-table, Expr, number, boolean, name, current-mask, unary, binary, Stmt, empty, braces, declare, assign, if-else, while, scalar, Stmts, none-yet, _⨾_}
+use Rattle.meaning.specs.Tree.{Name, same-kind, _one-of_, Block, table, unary-table, Expr, number, float-number, boolean, name, current-mask, unary, binary, Stmt, empty, braces, declare, assign, if-else, while, scalar, Stmts, none-yet, _⨾_}
 use Rattle.meaning.specs.Program.{Program}
 use Rattle.meaning.specs.Memory.{Declarations, declared, bit}
 use Rattle.meaning.specs.Codes.{ok}
@@ -28,6 +28,7 @@ Values C Γ a = (Γ* : Declarations) → Γ ≼ Γ* → Valued Γ* C (a .code) (
 values : (C : ℕ) (e : Expr) (Γ : Declarations) → Yields (Still Γ (Values C Γ)) (typed C e Γ)
 unfolding typed
 values C (number n) Γ = well (refl, λ Γ* q m M l. record { lanes = _; derived = R-CONST; long = refl })
+values C (float-number n) Γ = well (refl, λ Γ* q m M l. record { lanes = _; derived = R-CONST; long = refl })
 values C (boolean b) Γ = well (refl, λ Γ* q m M l. record { lanes = _; derived = R-CONST; long = refl })
 values C (name p x) Γ =
     keeping _ (names C p x Γ) (λ v h.

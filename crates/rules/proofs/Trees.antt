@@ -8,18 +8,19 @@ use Rattle.meaning.specs.declared.Kind.{Kind}
 use Rattle.meaning.specs.declared.Kind.the-variants.{Bool as bool}
 use Rattle.meaning.specs.declared.Refusal.the-variants.{WrongKind, WrongLength}
 use Rattle.meaning.specs.Codes.{ok}
-use Rattle.meaning.specs.Tree.{Name, same-kind, _one-of_, table, unary-table, Expr, number, boolean, name, current-mask, unary, binary, Block, Stmt, empty, braces, declare, assign, if-else, while, scalar, Stmts, none-yet, _⨾_}
+use Rattle.meaning.specs.Tree.{Name, same-kind, _one-of_, table, unary-table, Expr, number, float-number, boolean, name, current-mask, unary, binary, Block, Stmt, empty, braces, declare, assign, if-else, while, scalar, Stmts, none-yet, _⨾_}
 use Rattle.meaning.specs.Program.{Program}
 use Rattle.meaning.specs.Memory.{Declarations}
 use Rattle.meaning.specs.Typing.{Typed, accepts, match, typed, typed-condition, lanes-or, typed-declaration, with-one, scope, typed-statement, typed-statements, joined}
 use Rattle.rules.specs.Scopes.{Scope, start, beyond, past, past-all, declarations}
 use Rattle.laws.specs.Outcomes.{well, Yields, Still}
 use Rattle.laws.proofs.Outcomes.{followed, keeping, passed, also, said}
+use Rattle.laws.proofs.Typing.{same-kind-is}
 use Rattle.rules.proofs.Typed.{names, stores, names-one, one-declared, listed, stated-by-rules, sequence-by-rules}
-use Rattle.rules.proofs.Operators.{same-kinds, by-unary-table, by-test}
+use Rattle.rules.proofs.Operators.{by-unary-table, by-test}
 use Rattle.rules.proofs.Tables.{_≼_, same-shape, itself, before, declared-before, before-scope, inside-scope, new-shape}
 use Rattle.rules.proofs.Numbers.{numbers, scope-of, means-found, behind-scope, behind-declaration}
-use Rattle.rules.proofs.Resolution.{Same-value, Same, Same-all, same-number, same-boolean, same-name, same-mask, same-unary, same-binary, same-skip, same-declaration, same-init, same-assignment, same-braces, same-if, same-while, same-scalar, same-none, same-sequence}
+use Rattle.rules.proofs.Resolution.{Same-value, Same, Same-all, same-number, same-float, same-boolean, same-name, same-mask, same-unary, same-binary, same-skip, same-declaration, same-init, same-assignment, same-braces, same-if, same-while, same-scalar, same-none, same-sequence}
 
 -- An expression.
 abbrev Resolved-value : Expr → Declarations → Typed → Type 0
@@ -28,6 +29,7 @@ Resolved-value e Γ a = (Γ* : Declarations) → Γ ≼ Γ* → Same-value (scop
 value-resolved : (C : ℕ) (e : Expr) (Γ : Declarations) → Yields (Still Γ (Resolved-value e Γ)) (typed C e Γ)
 unfolding typed scope-of
 value-resolved C (number n) Γ = well (refl, λ Γ* q. same-number)
+value-resolved C (float-number n) Γ = well (refl, λ Γ* q. same-float)
 value-resolved C (boolean b) Γ = well (refl, λ Γ* q. same-boolean)
 value-resolved C (name p x) Γ =
     keeping _ (names C p x Γ) (λ v h.
@@ -55,7 +57,7 @@ unfolding typed-condition
 condition-resolved C p e Γ =
     keeping _ (value-resolved C e Γ) (λ a h.
     passed (same-kind (a .kind) bool) WrongKind p Γ _ tt (λ t.
-    well (refl, λ Γ* q. rw (same-kinds (a .kind) bool t) at (h Γ* q))))
+    well (refl, λ Γ* q. rw (same-kind-is (a .kind) bool t) at (h Γ* q))))
 
 -- A statement, or a sequence: the scope behind it, and that it derives the same.
 record Resolves (s : Stmt) (Γ : Declarations) (P : Program) (Γ′ : Declarations) : Type 0 where

@@ -19,7 +19,7 @@ use Rattle.meaning.specs.Typing.{Typed, accepts, gives-kind, match, fits, find,
 use Rattle.rules.specs.Lengths.{Match, Target, Fills, whole, broadcast}
 use Rattle.rules.specs.Operators.{_takes-two_gives_}
 use Rattle.rules.specs.Scopes.{declarations, declarations-in}
-use Rattle.rules.specs.Typing.{Names, _at_, Listed, no-block, block, _∣_⊢_∶⟨_∣_⟩, T-NUMBER, T-BOOLEAN, T-VAR, T-MASK, T-UNARY, T-BINARY, _∣_⊢_⊣_, T-SKIP, T-SCOPE, T-DECL, T-INIT, T-ASSIGN, T-BROADCAST, T-IF, T-WHILE, T-SCALAR, _∣_⊢*_⊣_, T-NONE, T-SEQUENCE}
+use Rattle.rules.specs.Typing.{Names, _at_, Listed, no-block, block, _∣_⊢_∶⟨_∣_⟩, T-NUMBER, T-FLOAT, T-BOOLEAN, T-VAR, T-MASK, T-UNARY, T-BINARY, _∣_⊢_⊣_, T-SKIP, T-SCOPE, T-DECL, T-INIT, T-ASSIGN, T-BROADCAST, T-IF, T-WHILE, T-SCALAR, _∣_⊢*_⊣_, T-NONE, T-SEQUENCE}
 use Rattle.rules.specs.Laying.{Variable, variables-of, Lays}
 use Rattle.laws.specs.Outcomes.{well, refusal, Succeeds, Still}
 use Rattle.laws.proofs.Outcomes.{followed, keeping, also}
@@ -78,6 +78,7 @@ type-known : {N : Names} {C n : ℕ} {e : Expr} {k : Kind} → N ∣ C ⊢ e ∶
     Succeeds (Still Γ (λ a. Of k n (a .kind) (a .lanes))) (typed C e Γ)
 unfolding typed accepts
 type-known T-NUMBER Γ o = well (refl, record { kinds = refl; lengths = refl })
+type-known T-FLOAT Γ o = well (refl, record { kinds = refl; lengths = refl })
 type-known T-BOOLEAN Γ o = well (refl, record { kinds = refl; lengths = refl })
 type-known {C} (T-VAR {p = p} {x = x} {k = k} {n = n} e m) Γ o =
     keeping _ (known C p x Γ k n (rw o e) m) (λ v h.

@@ -13,16 +13,17 @@ use Rattle.meaning.specs.declared.Kind.{Kind}
 use Rattle.meaning.specs.declared.Kind.the-variants.{Bool as bool}
 use Rattle.meaning.specs.declared.Refusal.the-variants.{UnknownName, AlreadyOpen, LengthNotListed, WrongKind, WrongLength, LengthOneTarget, TooManyDeclarations}
 use Rattle.meaning.specs.Codes.{after, check, option, refuse, give, _>>=_, _>>_, _among_, lengths, declaration-limit}
-use Rattle.meaning.specs.Tree.{Name, same-kind, _one-of_, table, unary-table, Expr, number, boolean, name, current-mask, unary, binary, Block, Stmt, empty, braces, declare, assign, if-else, while, scalar, Stmts, none-yet, _⨾_}
+use Rattle.meaning.specs.Tree.{Name, same-kind, _one-of_, table, unary-table, Expr, number, float-number, boolean, name, current-mask, unary, binary, Block, Stmt, empty, braces, declare, assign, if-else, while, scalar, Stmts, none-yet, _⨾_}
 use Rattle.meaning.specs.Program.{Program}
 use Rattle.meaning.specs.Memory.{Declared, Declarations, declared}
 use Rattle.meaning.specs.Typing.{Typed, accepts, match, fits, find, variable-named, typed, typed-condition, storable, declare-name, good-block, lanes-or, typed-declaration, with-one, shut, scope, typed-statement, typed-statements, joined}
 use Rattle.rules.specs.Lengths.{Match, scalar-type, same-length, Target, Fills, whole, broadcast}
 use Rattle.rules.specs.Scopes.{declarations, declarations-in}
-use Rattle.rules.specs.Typing.{Names, _at_, Listed, no-block, block, _∣_⊢_∶⟨_∣_⟩, T-NUMBER, T-BOOLEAN, T-VAR, T-MASK, T-UNARY, T-BINARY, _∣_⊢_⊣_, T-SKIP, T-SCOPE, T-DECL, T-INIT, T-ASSIGN, T-BROADCAST, T-IF, T-WHILE, T-SCALAR, _∣_⊢*_⊣_, T-NONE, T-SEQUENCE}
+use Rattle.rules.specs.Typing.{Names, _at_, Listed, no-block, block, _∣_⊢_∶⟨_∣_⟩, T-NUMBER, T-FLOAT, T-BOOLEAN, T-VAR, T-MASK, T-UNARY, T-BINARY, _∣_⊢_⊣_, T-SKIP, T-SCOPE, T-DECL, T-INIT, T-ASSIGN, T-BROADCAST, T-IF, T-WHILE, T-SCALAR, _∣_⊢*_⊣_, T-NONE, T-SEQUENCE}
 use Rattle.laws.specs.Outcomes.{well, refusal, Yields, Still}
 use Rattle.laws.proofs.Outcomes.{followed, keeping, passed}
-use Rattle.rules.proofs.Operators.{same-kinds, by-unary-table, by-test}
+use Rattle.laws.proofs.Typing.{same-kind-is}
+use Rattle.rules.proofs.Operators.{by-unary-table, by-test}
 use Rattle.rules.proofs.Lengths.{fits-match, matches, match-joined, target, fills}
 use Rattle.rules.proofs.Names.{opens, opens-with-one, opens-after-scope, Found, missing, number as found, finds}
 
@@ -53,6 +54,7 @@ pub typed-by-rules : (C : ℕ) (e : Expr) (Γ : Declarations) →
     Yields (Still Γ (λ a. opens Γ ∣ C ⊢ e ∶⟨ a .kind ∣ a .lanes ⟩)) (typed C e Γ)
 unfolding typed
 typed-by-rules C (number n) Γ = well (refl, T-NUMBER)
+typed-by-rules C (float-number n) Γ = well (refl, T-FLOAT)
 typed-by-rules C (boolean b) Γ = well (refl, T-BOOLEAN)
 typed-by-rules C (name p x) Γ = keeping _ (names C p x Γ) (λ v h. well (refl, T-VAR (h .named) (h .fitting)))
 typed-by-rules C current-mask Γ = well (refl, T-MASK)
@@ -71,6 +73,7 @@ typed-by-rules C (binary p o e e′) Γ =
 -- Every expression matches its context.
 pub matches-context : {Γ : Names} {C n : ℕ} {e : Expr} {k : Kind} → Γ ∣ C ⊢ e ∶⟨ k ∣ n ⟩ → Match C n
 matches-context T-NUMBER = scalar-type refl
+matches-context T-FLOAT = scalar-type refl
 matches-context T-BOOLEAN = scalar-type refl
 matches-context (T-VAR e m) = m
 matches-context T-MASK = same-length refl
@@ -84,7 +87,7 @@ unfolding typed-condition
 conditions C p e Γ =
     keeping _ (typed-by-rules C e Γ) (λ a h.
     passed (same-kind (a .kind) bool) WrongKind p Γ _ tt (λ t.
-    well (refl, rw (same-kinds (a .kind) bool t) at h)))
+    well (refl, rw (same-kind-is (a .kind) bool t) at h)))
 
 -- "The right side has the target's kind, and its length or 1": a value of kind k and l lanes for a target of n.
 pub record Stores (C : ℕ) (k : Kind) (n : ℕ) (a : Typed) : Type 0 where
@@ -99,7 +102,7 @@ stores C p k n a Γ =
     passed (same-kind (a .kind) k) WrongKind p Γ _ tt (λ t.
     passed (eqb (a .lanes) 1 || eqb (a .lanes) n) WrongLength p Γ _ tt (λ t′.
     go (eqb C 1 || not (eqb n 1)) (λ t″.
-    record { kind = same-kinds (a .kind) k t; fill = fills (a .lanes) n t′; wide = λ m. target C n m t″ })))
+    record { kind = same-kind-is (a .kind) k t; fill = fills (a .lanes) n t′; wide = λ m. target C n m t″ })))
   where
     go : (w : Bool) → (w ≡ true → Stores C k n a) → Yields (Still Γ (λ _. Stores C k n a)) (check w LengthOneTarget p Γ)
     go true h = well (refl, h refl)

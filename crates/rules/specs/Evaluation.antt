@@ -7,10 +7,10 @@ use mathlib.Core.List.{[], _∷_, map}
 use mathlib.Core.Option.{none, some}
 use lib.ListN.{length, replicate}
 use Rattle.meaning.specs.declared.Kind.{Kind}
-use Rattle.meaning.specs.declared.Kind.the-variants.{Int as int, Bool as bool}
+use Rattle.meaning.specs.declared.Kind.the-variants.{Int as int, Bool as bool, Float as float}
 use Rattle.meaning.specs.declared.Unary.{Unary}
 use Rattle.meaning.specs.declared.Binary.{Binary}
-use Rattle.meaning.specs.Tree.{Name, Expr, number, boolean, name, current-mask, unary, binary, Block, Stmt, empty, braces, declare, assign, if-else, while, scalar, Stmts, none-yet, _⨾_}
+use Rattle.meaning.specs.Tree.{Name, Expr, number, float-number, boolean, name, current-mask, unary, binary, Block, Stmt, empty, braces, declare, assign, if-else, while, scalar, Stmts, none-yet, _⨾_}
 use Rattle.meaning.specs.Memory.{Memory, Value, Mask, declared, fetch, update, bit, truth}
 use Rattle.meaning.specs.Running.{unary-of, binary-of, lanewise, some-lane}
 use Rattle.rules.specs.Lengths.{Match, Target}
@@ -30,6 +30,7 @@ infix 10 _∣_∣_⊢_⇒⟨_∣_⟩
 -- σ ∣ m ∣ M ⊢ e ⇒⟨ k ∣ v ⟩: in the scope σ, under the mask m and in the memory M, e has the kind k and the lanes v. 001's V(v, τ).
 pub data _∣_∣_⊢_⇒⟨_∣_⟩ (σ : Scope) (m : Mask) (M : Memory) : Expr → Kind → Value → Type 0 where
   E-NUMBER : {n : ℕ} → σ ∣ m ∣ M ⊢ number n ⇒⟨ int ∣ n ∷ [] ⟩
+  E-FLOAT : {n : ℕ} → σ ∣ m ∣ M ⊢ float-number n ⇒⟨ float ∣ n ∷ [] ⟩
   E-BOOLEAN : {c : Bool} → σ ∣ m ∣ M ⊢ boolean c ⇒⟨ bool ∣ bit c ∷ [] ⟩
   -- "A name must have length 1 or C, unless C is 1."
   E-VAR : {p i : ℕ} {x : Name} →

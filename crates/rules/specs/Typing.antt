@@ -5,12 +5,12 @@ use mathlib.Core.Bool.{Bool, true}
 use mathlib.Core.List.{List, [], _∷_, _++_}
 use mathlib.Core.Option.{Option, none, some}
 use Rattle.meaning.specs.declared.Kind.{Kind}
-use Rattle.meaning.specs.declared.Kind.the-variants.{Int as int, Bool as bool}
+use Rattle.meaning.specs.declared.Kind.the-variants.{Int as int, Bool as bool, Float as float}
 use Rattle.meaning.specs.Codes.{lookup, _among_, lengths}
 use Rattle.meaning.specs.Tokens.{equal}
 use Rattle.meaning.specs.declared.Unary.{Unary}
 use Rattle.meaning.specs.declared.Binary.{Binary}
-use Rattle.meaning.specs.Tree.{Name, Expr, number, boolean, name, current-mask, unary, binary, Block, Stmt, empty, braces, declare, assign, if-else, while, scalar, Stmts, none-yet, _⨾_}
+use Rattle.meaning.specs.Tree.{Name, Expr, number, float-number, boolean, name, current-mask, unary, binary, Block, Stmt, empty, braces, declare, assign, if-else, while, scalar, Stmts, none-yet, _⨾_}
 use Rattle.meaning.specs.Typing.{joined, lanes-or}
 use Rattle.rules.specs.Lengths.{Match, Target, Fills}
 use Rattle.rules.specs.Operators.{_takes_, _takes-two_gives_}
@@ -32,8 +32,9 @@ pub data Listed : Block → Type 0 where
 infix 10 _∣_⊢_∶⟨_∣_⟩
 -- Γ ∣ C ⊢ e ∶⟨ k ∣ n ⟩: among the names Γ, in a context of length C, e has the kind k and the length n.
 pub data _∣_⊢_∶⟨_∣_⟩ (Γ : Names) (C : ℕ) : Expr → Kind → ℕ → Type 0 where
-  -- "Constants have length 1."
+  -- "Constants have length 1." A float's is known by its pattern.
   T-NUMBER : {i : ℕ} → Γ ∣ C ⊢ number i ∶⟨ int ∣ 1 ⟩
+  T-FLOAT : {i : ℕ} → Γ ∣ C ⊢ float-number i ∶⟨ float ∣ 1 ⟩
   T-BOOLEAN : {c : Bool} → Γ ∣ C ⊢ boolean c ∶⟨ bool ∣ 1 ⟩
   -- "A name must have length 1 or C, unless C is 1."
   T-VAR : {p : ℕ} {x : Name} {k : Kind} {n : ℕ} →
@@ -43,14 +44,15 @@ pub data _∣_⊢_∶⟨_∣_⟩ (Γ : Names) (C : ℕ) : Expr → Kind → ℕ 
       Γ ∣ C ⊢ name p x ∶⟨ k ∣ n ⟩
   -- "current_mask is bool of length C."
   T-MASK : Γ ∣ C ⊢ current-mask ∶⟨ bool ∣ C ⟩
-  -- "`-` `~` take int, `!` bool"
+  -- "`-` `~` take int, `!` bool"; document 02, R-2: of floats "unary minus"
   T-UNARY : {p : ℕ} {o : Unary} {e : Expr} {k : Kind} {n : ℕ} →
       o takes k →
       Γ ∣ C ⊢ e ∶⟨ k ∣ n ⟩ →
       -------------------------------
       Γ ∣ C ⊢ unary p o e ∶⟨ k ∣ n ⟩
-  -- "`+ - *` and `< > <= >=` take ints; `== != & | ^` take two of one kind". "A binary operator needs equal lengths or one of length
-  -- 1, which is replicated." "Comparisons give bool, the others their operands' kind."
+  -- "`+ - *` and `< > <= >=` take ints; `== != & | ^` take two of one kind"; document 02, R-2: of floats "`+ - *` .. and all
+  -- comparisons", refused "mixed with int". "A binary operator needs equal lengths or one of length 1, which is replicated."
+  -- "Comparisons give bool, the others their operands' kind."
   T-BINARY : {p : ℕ} {o : Binary} {e e′ : Expr} {k l : Kind} {n n′ : ℕ} →
       o takes-two k gives l →
       Γ ∣ C ⊢ e ∶⟨ k ∣ n ⟩ →

@@ -1,4 +1,5 @@
 pub mod Numbers
+pub mod Constants
 pub mod Signs
 pub mod Words
 pub mod Walking

@@ -49,7 +49,7 @@ pub sign-of-two : (s : List ℕ) → 0 < length s → sign marks (getD s 0 0 ∷
 unfolding marks numbered signs bytes
 sign-of-two s lt = sign-small marks s refl lt
 
-eqb-swap : (a b : ℕ) → eqb a b ≡ eqb b a
+pub eqb-swap : (a b : ℕ) → eqb a b ≡ eqb b a
 eqb-swap a b = go (eqb b a) refl
   where
     go : (g : Bool) → eqb b a ≡ g → eqb a b ≡ g

@@ -16,7 +16,7 @@ use Rattle.layout.specs.Tokens.{token-words, Token-row, Holds}
 use Rattle.tokens.specs.declared.Lexeme.the-variants.{Gap, Token as OneToken, Bad}
 use Rattle.layout.specs.declared.Stage.the-variants.{Done, Refused}
 use Rattle.tokens.specs.Lexing.{lexeme, Token-room, Lexes}
-use Rattle.laws.proofs.The.{the-end, number-not-end, name-not-end, number-not-name}
+use Rattle.laws.proofs.The.{the-end, number-not-end, name-not-end, number-not-name, float-number-not-end, float-number-not-name}
 use Rattle.laws.proofs.Pieces.{Taken, Fair, nothing, between, taken, fair}
 use Rattle.laws.proofs.Turns.{tokens-from, from-start, turn-over, turn-bad, turn-gap, turn-token}
 use Rattle.tokens.proofs.Rows.{holds-none, holds-more}
@@ -83,13 +83,20 @@ token-row {k = k} {p} {v} {w} {n} t beside =
       is = refl;
       at = refl;
       worth = λ e. beside ∙ rw (ne-eqb k (the "name") (λ q. number-not-name (sym e ∙ q)));
+      pattern = λ e. beside ∙ rw (ne-eqb k (the "name") (λ q. float-number-not-name (sym e ∙ q)));
       end = λ e. beside ∙ rw (eq-eqb k (the "name") e, t .name e .1);
     }
 
 end-row : (p : ℕ) → Token-row 0 p 0 (end-at p)
 unfolding end-at
 end-row p =
-    record { is = sym the-end; at = refl; worth = λ e. absurd (number-not-end (sym e)); end = λ e. absurd (name-not-end (sym e)) }
+    record {
+      is = sym the-end;
+      at = refl;
+      worth = λ e. absurd (number-not-end (sym e));
+      pattern = λ e. absurd (float-number-not-end (sym e));
+      end = λ e. absurd (name-not-end (sym e));
+    }
 
 -- So far n tokens are in the buffer, and the text is read up to `at`.
 pub record Tokens-so-far (text buffer₀ buffer : List ℕ) (at n : ℕ) : Type 0 where

@@ -5,9 +5,9 @@ use mathlib.Core.Path.{_≡_}
 use mathlib.Core.Bool.{Bool, _&&_}
 use mathlib.Core.List.{List, [], _∷_, _++_}
 use lib.Dec.{eqb}
-use lib.ListN.{length, getD, drop}
+use lib.ListN.{length, getD, take, drop}
 use Rattle.meaning.specs.Codes.{Out, ok, refused, if_then_else_, option, lookup, text-limit}
-use Rattle.meaning.specs.Tokens.{Token, Piece, over, bad, gap, token, the, bytes, equal, words, marks, space, digit, letter-or-digit, in-line, run-of, lexed}
+use Rattle.meaning.specs.Tokens.{Token, Piece, over, bad, gap, token, the, bytes, equal, words, marks, space, digit, letter-or-digit, in-line, run-of, constant, numeral, lexed}
 use Rattle.meaning.specs.Memory.{number-of}
 use Rattle.layout.specs.Sizes.{token-room}
 use Rattle.layout.specs.Tokens.{token-words, Holds}
@@ -58,6 +58,14 @@ class-test Space = space
 class-test Digit = digit
 class-test LetterOrDigit = letter-or-digit
 class-test InLine = in-line
+
+-- What begins with the digits of s.
+abbrev pub numeral-of : List ℕ → Piece
+numeral-of s = numeral (take (run-of digit s) s) (drop (run-of digit s) s)
+
+-- A float's constant: the digits s, a point, and the digits that t begins with.
+abbrev pub constant-of : List ℕ → List ℕ → Piece
+constant-of s t = constant s (take (run-of digit t) t)
 
 -- "letters, digits, `_`", and nothing else.
 abbrev pub Word : List ℕ → Type 0

@@ -2,6 +2,7 @@
 mod sign;
 mod word;
 
+use floats::whole;
 use layout::Stage;
 use layout::limit;
 use layout::put_unit;
@@ -14,7 +15,7 @@ ghost use Prim.Native.Nat.{ℕ, _+_, _<_, _≤_};
 ghost use lib.ListN.{length, getD};
 ghost use Rattle.meaning.specs.Codes.{text-limit, number-limit};
 ghost use Rattle.meaning.specs.Tokens.{letter, digit, run-of, decimal, word, digits, piece};
-ghost use Rattle.tokens.specs.Lexing.{class-test, Word, lexeme, Token-room, Lexes};
+ghost use Rattle.tokens.specs.Lexing.{class-test, numeral-of, constant-of, Word, lexeme, Token-room, Lexes};
 
 // The text's tokens and its end into the buffer: how many there are, the end among them, and their words; or the first refusal.
 pub fn lex(text: &[u8], tokens: &mut [u32]) -> Stage
@@ -81,8 +82,7 @@ fn next(s: &[u8], at: usize) -> Lexeme
         return word_of(&s[..len], at);
     }
     if is_digit(b) {
-        let len = run(s, Class::Digit);
-        return number_of(&s[..len]);
+        return numeral(s);
     }
     sign::longest(b, c)
 }
@@ -108,6 +108,37 @@ fn word_of(s: &[u8], at: usize) -> Lexeme
         return Lexeme::Bad;
     }
     Lexeme::Token(token::NAME, (at + len) as u32, len)
+}
+
+// A number, or a float's constant where a point follows its digits directly.
+fn numeral(s: &[u8]) -> Lexeme
+    requires { ⌜ 0 < run-of digit (now s) ⌝ }
+    ensures { λ r. ⌜ ((at : ℕ) → r ≡ lexeme at (numeral-of (now (s .entry)))) ⌝ }
+{
+    let len = run(s, Class::Digit);
+    if byte_at(s, len, 0) == b'.' {
+        return constant(&s[..len], &s[len + 1..]);
+    }
+    number_of(&s[..len])
+}
+
+// A float's constant, from the digits of its whole number and the bytes behind its point: its value is its pattern.
+fn constant(s: &[u8], behind: &[u8]) -> Lexeme
+    requires { ⌜ (0 < length (now s)) × (run-of digit (now s) ≡ length (now s)) ⌝ }
+    ensures { λ r. ⌜ ((at : ℕ) → r ≡ lexeme at (constant-of (now (s .entry)) (now (behind .entry)))) ⌝ }
+{
+    let more = run(behind, Class::Digit);
+    if !((more == 1) & (byte_at(behind, 0, 0) == b'0')) {
+        return Lexeme::Bad;
+    }
+    let Lexeme::Token(_, n, _) = number_of(s) else {
+        return Lexeme::Bad;
+    };
+    if limit::FLOAT < n as u64 {
+        return Lexeme::Bad;
+    }
+    let pattern = whole(n);
+    Lexeme::Token(token::FLOAT_NUMBER, pattern, s.len() + 2)
 }
 
 // A number, from its digits.

@@ -9,9 +9,9 @@ ghost use Rattle.meaning.specs.Memory.{number-of};
 ghost use Rattle.meaning.specs.Tokens.{reserved};
 ghost use Rattle.tokens.specs.Lexing.{Word, word-kind, row-bytes, rows, row-kind, spelled, letters};
 
-// Document 01's reserved words, in its order: a row for each, filled up with spaces. Their tokens are numbered in this order, from
-// `token::INT` on.
-const RESERVED: [u8; 10 * ROW] = *b"\
+// Document 01's reserved words, in its order, and document 02's `float`: a row for each, filled up with spaces. Their tokens are numbered
+// in this order, from `token::INT` on.
+const RESERVED: [u8; 11 * ROW] = *b"\
     int         \
     bool        \
     block       \
@@ -21,7 +21,8 @@ const RESERVED: [u8; 10 * ROW] = *b"\
     scalar      \
     current_mask\
     true        \
-    false       ";
+    false       \
+    float       ";
 
 // The bytes of a row.
 const ROW: usize = 12;

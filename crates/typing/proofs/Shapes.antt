@@ -6,7 +6,7 @@ use mathlib.Core.List.{List, _++_}
 use mathlib.Core.Option.{Option}
 use lib.ListN.{length, getD, length-append}
 use Rattle.meaning.specs.declared.Kind.{Kind}
-use Rattle.meaning.specs.declared.Kind.the-variants.{Int as int, Bool as bool}
+use Rattle.meaning.specs.declared.Kind.the-variants.{Int as int, Bool as bool, Float as float}
 use Rattle.meaning.specs.Tokens.{the, numbered, reserved, words, signs, marks}
 use Rattle.meaning.specs.Tree.{Name, Expr, Block, Stmt, braces, declare, assign, if-else, while, scalar}
 use Rattle.layout.specs.Words.{flat, headed, kind-tag, value-words, flat-stmt, flat-stmts}
@@ -23,6 +23,7 @@ pub data Shape (text : List ℕ) (n : ℕ) (words : List ℕ) (s : Stmt) : ℕ �
   a-choice : 0 < n → Choice (n - 1) text words s → Shape text n words s 19
   a-cycle : 0 < n → Cycle (n - 1) text words s → Shape text n words s 21
   an-alone : 0 < n → Alone (n - 1) text words s → Shape text n words s 22
+  a-float : Declaration text words s → Shape text n words s 26
   an-empty : Empty words s → Shape text n words s 52
   some-braces : 0 < n → Braces (n - 1) text words s → Shape text n words s 53
 
@@ -62,6 +63,7 @@ module _ {text : List ℕ} where
   }))
   shape-of (of-declare {k = int} i b x v) = an-int (declaration-of b x v)
   shape-of (of-declare {k = bool} i b x v) = a-bool (declaration-of b x v)
+  shape-of (of-declare {k = float} i b x v) = a-float (declaration-of b x v)
   shape-of (of-assign {p = p} {q} {x} {e} s i d) = an-assignment (record {
     name = x;
     value = e;
@@ -111,6 +113,7 @@ module _ {text words : List ℕ} {n : ℕ} {s : Stmt} where
   long-shape (an-assignment a) = omega (arith, a .long)
   long-shape (an-int d) = omega (arith, d .long)
   long-shape (a-bool d) = omega (arith, d .long)
+  long-shape (a-float d) = omega (arith, d .long)
   long-shape (a-choice l c) = omega (arith, c .long)
   long-shape (a-cycle l c) = omega (arith, c .long)
   long-shape (an-alone l a) = a .long
@@ -139,6 +142,7 @@ module _ {text words : List ℕ} {n : ℕ} {s : Stmt} where
   declare-shape (an-assignment a) e b n i w c = absurd (n refl)
   declare-shape (an-int d) e b n i w c = d
   declare-shape (a-bool d) e b n i w c = d
+  declare-shape (a-float d) e b n i w c = d
   declare-shape (a-choice l x) e b n i w c = absurd (i refl)
   declare-shape (a-cycle l x) e b n i w c = absurd (w refl)
   declare-shape (an-alone l x) e b n i w c = absurd (c refl)

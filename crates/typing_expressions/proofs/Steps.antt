@@ -9,7 +9,7 @@ use mathlib.Core.Option.{some}
 use lib.ListN.{length, getD}
 use borrow.Author.Tests.{lt-ltb, le-ltb}
 use Rattle.meaning.specs.declared.Kind.{Kind}
-use Rattle.meaning.specs.declared.Kind.the-variants.{Int as int, Bool as bool}
+use Rattle.meaning.specs.declared.Kind.the-variants.{Int as int, Bool as bool, Float as float}
 use Rattle.meaning.specs.declared.Refusal.the-variants.{UnknownName, AlreadyOpen, WrongLength, TooManyDeclarations}
 use Rattle.meaning.specs.Codes.{declaration-limit}
 use Rattle.meaning.specs.Tokens.{equal, the, numbered, reserved, words, signs, marks}
@@ -29,7 +29,7 @@ use Rattle.typing_expressions.specs.declared.Found.the-variants.{At, Not
 use Rattle.layout.specs.declared.Stage.{Stage}
 use Rattle.layout.specs.declared.Stage.the-variants.{Done, Refused}
 use Rattle.typing_expressions.specs.Rows.{Spans, Listed-length, Rows, spelled, number-of, Finds, end-of}
-use Rattle.typing_expressions.specs.Nodes.{Tree-node, a-number, a-boolean, a-name, a-mask, a-unary, a-binary, node-tag, node-first, node-second, arity, Slot, step, slots, Is-node, Is-leaf, Node-at}
+use Rattle.typing_expressions.specs.Nodes.{Tree-node, a-number, a-float, a-boolean, a-name, a-mask, a-unary, a-binary, node-tag, node-first, node-second, arity, Slot, step, slots, Is-node, Is-leaf, Node-at}
 use Rattle.typing_expressions.specs.Answers.{Types-node, There-is, Types-name, Types-unary, Types-binary, number-out, Declares-name}
 use Rattle.typing_expressions.proofs.Tags.{arity-0, arity-2, unary-low, binary-range, Class, leaf, unary, binary, class}
 use Rattle.typing_expressions.proofs.Names.{length-entries, entries-at}
@@ -73,6 +73,7 @@ module _ {text table : List ℕ} {at : Point} {place end : ℕ} {r : Found} (f :
 -- The nodes that take no operands, by their words.
 pub data Operand (text : List ℕ) (a b : ℕ) : ℕ → Tree-node → Type 0 where
   is-number : Operand text a b 1 (a-number a)
+  is-float : Operand text a b 3 (a-float a)
   is-name : {x : Name} → Spelled text a x → b ≡ a + length x → Operand text a b 2 (a-name a x)
   is-mask : Operand text a b 23 a-mask
   is-true : Operand text a b 24 (a-boolean true)
@@ -84,6 +85,7 @@ operand {text} {tag} {a} {b} {n} i l = go n (i .tag-is) (i .first-is) (i .second
   where
     go : (n : Tree-node) → node-tag n ≡ tag → node-first n ≡ a → node-second n ≡ b → ((p : ℕ) (x : Name) → n ≡ a-name p x → Spelled text p x) → Operand text a b tag n
     go (a-number m) t f s w = rw (← t, ← f) is-number
+    go (a-float m) t f s w = rw (← t, ← f) is-float
     go (a-boolean true) t f s w = rw (← t) is-true
     go (a-boolean false) t f s w = rw (← t) is-false
     go (a-name p x) t f s w = rw (← t, ← f) (is-name (w p x refl) (sym s))
@@ -100,31 +102,32 @@ leaf-low {tag = tag} {n = n} l = go (class n) (l .is .tag-is) (l .alone)
     go unary q z = absurd (omega arith)
     go binary q z = absurd (omega arith)
 
--- A constant or current_mask that is put into its slot.
-module _ {text : List ℕ} {at : Point} {a b j : ℕ} {l : List Slot} {Γ : Declarations} {before after : List ℕ} (room : j * 3 + 3 ≤ length before) where
-  pub number-on : {n : Tree-node} → Operand text a b 1 n → after ≡ with-slot before j (kind-number int) 1 a → Types-node at n l Γ j before after (Done (j + 1) (at .size))
-  unfolding step
-  number-on is-number e = node-put e room refl
+-- A constant or current_mask, by its tag: the kind, the length and the word that are put into its slot.
+pub data Puts (C a : ℕ) : ℕ → Kind → ℕ → ℕ → Type 0 where
+  number : Puts C a 1 int 1 a
+  float-number : Puts C a 3 float 1 a
+  current-mask : Puts C a 23 bool C 0
+  yes : Puts C a 24 bool 1 1
+  no : Puts C a 25 bool 1 0
 
-  pub true-on : {n : Tree-node} → Operand text a b 24 n → after ≡ with-slot before j (kind-number bool) 1 1 → Types-node at n l Γ j before after (Done (j + 1) (at .size))
-  unfolding step bit
-  true-on is-true e = node-put e room refl
-
-  pub false-on : {n : Tree-node} → Operand text a b 25 n → after ≡ with-slot before j (kind-number bool) 1 0 → Types-node at n l Γ j before after (Done (j + 1) (at .size))
-  unfolding step bit
-  false-on is-false e = node-put e room refl
-
-  pub mask-on : {n : Tree-node} → Operand text a b 23 n → after ≡ with-slot before j (kind-number bool) (at .context) 0 → Types-node at n l Γ j before after (Done (j + 1) (at .size))
-  unfolding step
-  mask-on is-mask e = node-put e room refl
+pub constant-on : {text : List ℕ} {at : Point} {a b j : ℕ} {l : List Slot} {Γ : Declarations} {before after : List ℕ} {tag m w : ℕ} {k : Kind} {n : Tree-node}
+    → j * 3 + 3 ≤ length before → Puts (at .context) a tag k m w → Operand text a b tag n → after ≡ with-slot before j (kind-number k) m w
+    → Types-node at n l Γ j before after (Done (j + 1) (at .size))
+unfolding step bit
+constant-on room number is-number e = node-put e room refl
+constant-on room float-number is-float e = node-put e room refl
+constant-on room current-mask is-mask e = node-put e room refl
+constant-on room yes is-true e = node-put e room refl
+constant-on room no is-false e = node-put e room refl
 
 -- A leaf of another tag is a name.
-pub a-name-left : {text : List ℕ} {a b tag : ℕ} {n : Tree-node} → Operand text a b tag n → (tag ≡ 1 → ⊥) → (tag ≡ 24 → ⊥) → (tag ≡ 25 → ⊥) → (tag ≡ 23 → ⊥) → Operand text a b 2 n
-a-name-left is-number p q r s = absurd (p refl)
-a-name-left (is-name x y) p q r s = is-name x y
-a-name-left is-mask p q r s = absurd (s refl)
-a-name-left is-true p q r s = absurd (q refl)
-a-name-left is-false p q r s = absurd (r refl)
+pub a-name-left : {text : List ℕ} {a b tag : ℕ} {n : Tree-node} → Operand text a b tag n → (tag ≡ 1 → ⊥) → (tag ≡ 3 → ⊥) → (tag ≡ 24 → ⊥) → (tag ≡ 25 → ⊥) → (tag ≡ 23 → ⊥) → Operand text a b 2 n
+a-name-left is-number p f q r s = absurd (p refl)
+a-name-left is-float p f q r s = absurd (f refl)
+a-name-left (is-name x y) p f q r s = is-name x y
+a-name-left is-mask p f q r s = absurd (s refl)
+a-name-left is-true p f q r s = absurd (q refl)
+a-name-left is-false p f q r s = absurd (r refl)
 
 pub name-on : {text : List ℕ} {at : Point} {a b j : ℕ} {l : List Slot} {Γ : Declarations} {before after : List ℕ} {r : Stage} {n : Tree-node}
     → Operand text a b 2 n → Types-node at (a-name a (spelled text a b)) [] Γ j before after r → Types-node at n l Γ j before after r

@@ -12,7 +12,7 @@ use lib.Seq.{sets, length-sets, getD-set-same, getD-set-other, take-all, take-ap
 use borrow.Author.Count.{below-more}
 use borrow.Author.Tests.{leb-true, leb-false}
 use Rattle.meaning.specs.declared.Kind.{Kind}
-use Rattle.meaning.specs.declared.Kind.the-variants.{Int as int, Bool as bool}
+use Rattle.meaning.specs.declared.Kind.the-variants.{Int as int, Bool as bool, Float as float}
 use Rattle.meaning.specs.Codes.{lengths, declaration-limit}
 use Rattle.meaning.specs.Memory.{Declared, Declarations, whole, size, next-multiple, need}
 use Rattle.meaning.specs.Tree.{kind-number}
@@ -40,9 +40,8 @@ pub listed-one : Listed-length 1
 unfolding lengths
 listed-one = record { is = refl }
 
-pub whole-size : (k : Kind) {n : ℕ} → Listed-length n → Size (whole k n)
-unfolding whole size
-whole-size int {n} l =
+four-size : {n : ℕ} → Listed-length n → Size (n * 4)
+four-size {n} l =
     by-length (λ n. Size (n * 4)) n (l .is)
     (of 4 64 (omega arith) (omega arith) refl)
     (of 8 32 (omega arith) (omega arith) refl)
@@ -51,6 +50,10 @@ whole-size int {n} l =
     (of 64 4 (omega arith) (omega arith) refl)
     (of 128 2 (omega arith) (omega arith) refl)
     (of 256 1 (omega arith) (omega arith) refl)
+
+pub whole-size : (k : Kind) {n : ℕ} → Listed-length n → Size (whole k n)
+unfolding whole size
+whole-size int l = four-size l
 whole-size bool {n} l =
     by-length (λ n. Size (n * 1)) n (l .is)
     (of 1 256 (omega arith) (omega arith) refl)
@@ -60,6 +63,7 @@ whole-size bool {n} l =
     (of 16 16 (omega arith) (omega arith) refl)
     (of 32 8 (omega arith) (omega arith) refl)
     (of 64 4 (omega arith) (omega arith) refl)
+whole-size float l = four-size l
 
 -- ---- addresses
 module _ {s : ℕ} (z : Size s) (end : ℕ) where

@@ -1,22 +1,29 @@
 -- The tags of nodes as numbers, and what the tests of the code on them say of kinds and operators.
-use Prim.Native.Nat.{ℕ, _≤_, _<_}
+use Prim.Native.Nat.{ℕ, _*_, _≤_, _<_}
 use native.Mathlib.Omega.{arith}
-use mathlib.Core.Path.{_≡_, refl, sym, _∙_}
-use mathlib.Core.Bool.{true, false, _||_, or-false, true≢false}
-use mathlib.Core.List.{[], _∷_}
+use mathlib.Core.Path.{_≡_, refl, sym, ap, _∙_}
+use mathlib.Core.Bool.{Bool, true, false, _||_, or-false, true≢false}
+use mathlib.Core.Logic.{inl, inr}
+use mathlib.Core.List.{List, [], _∷_, map}
 use lib.Dec.{eqb}
+use lib.ListN.{length, getD, drop, replicate}
+use denote.Enum.Declared.{tagOf}
+use types.Run.{OneOf, miss}
 use borrow.Author.Tests.{ne-eqb}
+use Rattle.meaning.proofs.Kind as its-kinds
+use Rattle.meaning.proofs.Binary as its-operators
 use Rattle.meaning.specs.declared.Kind.{Kind}
-use Rattle.meaning.specs.declared.Kind.the-variants.{Int as int, Bool as bool}
+use Rattle.meaning.specs.declared.Kind.the-variants.{Int as int, Bool as bool, Float as float}
 use Rattle.meaning.specs.Tokens.{the, numbered, reserved, words, signs, marks}
 use Rattle.meaning.specs.declared.Unary.{Unary}
 use Rattle.meaning.specs.declared.Unary.the-variants.{Neg as neg, Inv as inv, Not as not}
 use Rattle.meaning.specs.declared.Binary.{Binary}
 use Rattle.meaning.specs.declared.Binary.the-variants.{Or as or, Xor as xor, And as and, Eq as eq, Ne as ne, Lt as lt, Gt as gt, Le as le, Ge as ge, Add as add, Sub as sub, Mul as mul}
 use Rattle.meaning.specs.Tree.{kind-number, same-kind, _one-of_, Gives, a-bool, its-kind, table, unary-table}
+use Rattle.meaning.specs.Memory.{whole, size}
 use Rattle.meaning.specs.Typing.{gives-kind}
 use Rattle.layout.specs.Words.{binary-tag, unary-tag, boolean-tag}
-use Rattle.typing_expressions.specs.Nodes.{Tree-node, a-number, a-boolean, a-name, a-mask, a-unary, a-binary, node-tag, node-first, code-tag, code-place, arity, a-bool?}
+use Rattle.typing_expressions.specs.Nodes.{Tree-node, a-number, a-float, a-boolean, a-name, a-mask, a-unary, a-binary, node-tag, node-first, code-tag, code-place, arity, a-bool?}
 
 -- ---- kinds
 pub same-kind-is : (a b : Kind) → eqb (kind-number a) (kind-number b) ≡ same-kind a b
@@ -28,7 +35,48 @@ pub only-kind : (k l : Kind) → same-kind k l ≡ (k one-of (l ∷ []))
 unfolding _one-of_
 only-kind k l = sym (or-false (same-kind k l))
 
+-- The only two kinds of a list.
+pub either-kind : (k l m : Kind) → (same-kind k l || same-kind k m) ≡ (k one-of (l ∷ m ∷ []))
+unfolding _one-of_
+either-kind k l m = rw (or-false (same-kind k m))
+
+-- Of an int and of a float each lane has four bytes.
+pub four-bytes : (k : Kind) (n : ℕ) → OneOf (0 ∷ 2 ∷ []) (tagOf its-kinds.the-type k) → n * 4 ≡ whole k n
+unfolding whole size
+four-bytes int n h = refl
+four-bytes bool n h = absurd (miss (0 ∷ 2 ∷ []) 1 tt h)
+four-bytes float n h = refl
+
 -- ---- operators
+-- The binary operators in the order of their numbers.
+abbrev operators : List Binary
+operators = or ∷ xor ∷ and ∷ eq ∷ ne ∷ lt ∷ gt ∷ le ∷ ge ∷ add ∷ sub ∷ mul ∷ []
+
+back : (o : Binary) → getD operators (tagOf its-operators.the-type o) or ≡ o
+back or = refl
+back xor = refl
+back and = refl
+back eq = refl
+back ne = refl
+back lt = refl
+back gt = refl
+back le = refl
+back ge = refl
+back add = refl
+back sub = refl
+back mul = refl
+
+-- An arm of a match has the numbers of a list: what f is of each of them it is of the operator that the arm is for.
+module _ (f : Binary → Bool) (b : Bool) where
+  among : (l : List ℕ) → map (λ k. f (getD operators k or)) l ≡ replicate (length l) b → (n : ℕ) → OneOf l n → b ≡ f (getD operators n or)
+  among [] e n h = absurd h
+  among (k ∷ []) e n h = rw h (sym (ap (λ w. getD w 0 b) e))
+  among (k ∷ k′ ∷ l) e n (inl h) = rw h (sym (ap (λ w. getD w 0 b) e))
+  among (k ∷ k′ ∷ l) e n (inr h) = among (k′ ∷ l) (ap (drop 1) e) n h
+
+  pub on-arm : (l : List ℕ) → map (λ k. f (getD operators k or)) l ≡ replicate (length l) b → (o : Binary) → OneOf l (tagOf its-operators.the-type o) → b ≡ f o
+  on-arm l e o h = among l e (tagOf its-operators.the-type o) h ∙ ap f (back o)
+
 -- Binary operators have tags from 48 to 127, unary ones from 128 on.
 pub binary-range : (o : Binary) → (48 ≤ binary-tag o) × (binary-tag o < 128)
 unfolding binary-tag table the numbered reserved words signs marks
@@ -88,6 +136,7 @@ pub data Class : Tree-node → Type 0 where
 pub class : (n : Tree-node) → Class n
 unfolding node-tag arity boolean-tag the numbered reserved words signs marks
 class (a-number n) = leaf (a-number n) (omega arith) refl
+class (a-float n) = leaf (a-float n) (omega arith) refl
 class (a-boolean true) = leaf (a-boolean true) (omega arith) refl
 class (a-boolean false) = leaf (a-boolean false) (omega arith) refl
 class (a-name p x) = leaf (a-name p x) (omega arith) refl
@@ -95,8 +144,8 @@ class a-mask = leaf a-mask (omega arith) refl
 class (a-unary p o) = unary
 class (a-binary p o) = binary
 
-far : (t : ℕ) → 48 ≤ t → (eqb t 24 || eqb t 25) ≡ false
-far t h = rw (ne-eqb t 24 (λ z. omega arith), ne-eqb t 25 (λ z. omega arith))
+far : (t : ℕ) → 48 ≤ t → (eqb t 24 || eqb t 25 || eqb t 3) ≡ false
+far t h = rw (ne-eqb t 24 (λ z. omega arith), ne-eqb t 25 (λ z. omega arith), ne-eqb t 3 (λ z. omega arith))
 
 module _ {tag : ℕ} where
   pub arity-0 : (n : Tree-node) → node-tag n ≡ tag → tag < 48 → 0 ≡ arity n
@@ -117,18 +166,20 @@ module _ {tag : ℕ} where
       go (unary {p} {o}) h = absurd (omega (arith, unary-low o))
       go (binary {p} {o}) h = refl
 
-  pub coded-boolean : (n : Tree-node) → node-tag n ≡ tag → (eqb tag 24 || eqb tag 25) ≡ true → 1 ≡ code-tag n
+  pub coded-constant : (n : Tree-node) → node-tag n ≡ tag → (eqb tag 24 || eqb tag 25 || eqb tag 3) ≡ true → 1 ≡ code-tag n
   unfolding node-tag code-tag boolean-tag the numbered reserved words signs marks
-  coded-boolean (a-number n) h t = refl
-  coded-boolean (a-boolean b) h t = refl
-  coded-boolean (a-name p x) h t = absurd (true≢false (sym t ∙ rw (← h)))
-  coded-boolean a-mask h t = absurd (true≢false (sym t ∙ rw (← h)))
-  coded-boolean (a-unary p o) h t = absurd (true≢false (sym t ∙ far tag (omega (arith, unary-low o))))
-  coded-boolean (a-binary p o) h t = absurd (true≢false (sym t ∙ far tag (omega (arith, binary-range o .0))))
+  coded-constant (a-number n) h t = refl
+  coded-constant (a-float n) h t = refl
+  coded-constant (a-boolean b) h t = refl
+  coded-constant (a-name p x) h t = absurd (true≢false (sym t ∙ rw (← h)))
+  coded-constant a-mask h t = absurd (true≢false (sym t ∙ rw (← h)))
+  coded-constant (a-unary p o) h t = absurd (true≢false (sym t ∙ far tag (omega (arith, unary-low o))))
+  coded-constant (a-binary p o) h t = absurd (true≢false (sym t ∙ far tag (omega (arith, binary-range o .0))))
 
-  pub coded-same : (n : Tree-node) → node-tag n ≡ tag → (eqb tag 24 || eqb tag 25) ≡ false → tag ≡ code-tag n
+  pub coded-same : (n : Tree-node) → node-tag n ≡ tag → (eqb tag 24 || eqb tag 25 || eqb tag 3) ≡ false → tag ≡ code-tag n
   unfolding node-tag code-tag boolean-tag the numbered reserved words signs marks
   coded-same (a-number n) h t = sym h
+  coded-same (a-float n) h t = absurd (true≢false (rw (← h) at t))
   coded-same (a-boolean true) h t = absurd (true≢false (rw (← h) at t))
   coded-same (a-boolean false) h t = absurd (true≢false (rw (← h) at t))
   coded-same (a-name p x) h t = sym h
@@ -140,6 +191,7 @@ module _ {tag : ℕ} where
   pub placed-leaf : (n : Tree-node) → node-tag n ≡ tag → tag < 48 → 0 ≡ code-place n
   unfolding node-tag code-place
   placed-leaf (a-number n) h l = refl
+  placed-leaf (a-float n) h l = refl
   placed-leaf (a-boolean b) h l = refl
   placed-leaf (a-name p x) h l = refl
   placed-leaf a-mask h l = refl

@@ -13,7 +13,7 @@ use Rattle.meaning.specs.declared.Refusal.the-variants.{WrongKind, WrongLength}
 use Rattle.meaning.specs.Codes.{Out, ok, refused, after, _>>_, give, check}
 use Rattle.meaning.specs.declared.Unary.{Unary}
 use Rattle.meaning.specs.declared.Binary.{Binary}
-use Rattle.meaning.specs.Tree.{Name, kind-number, _one-of_, table, unary-table, Expr, number, boolean, name, current-mask, unary, binary}
+use Rattle.meaning.specs.Tree.{Name, kind-number, _one-of_, table, unary-table, Expr, number, float-number, boolean, name, current-mask, unary, binary}
 use Rattle.meaning.specs.Program as P
 use Rattle.meaning.specs.Program.{constant}
 use Rattle.meaning.specs.Memory.{Declarations}
@@ -25,9 +25,9 @@ use Rattle.layout.specs.Stack.{slot-kind, slot-lanes, slot-word}
 use Rattle.layout.specs.Table.{kind-of, entries}
 use Rattle.layout.specs.declared.Stage.{Stage}
 use Rattle.layout.specs.declared.Stage.the-variants.{Done, Refused}
-use Rattle.laws.specs.Sound.{Spelled, stack as height, stack-limit, In-text, of-number, of-boolean, of-name, of-mask, of-unary, of-binary}
+use Rattle.laws.specs.Sound.{Spelled, stack as height, stack-limit, In-text, of-number, of-float, of-boolean, of-name, of-mask, of-unary, of-binary}
 use Rattle.typing_expressions.specs.declared.Point.{Point}
-use Rattle.typing_expressions.specs.Nodes.{Tree-node, a-number, a-boolean, a-name, a-mask, a-unary, a-binary, nodes, node-tag, node-first, node-second, nodes-words, code-tag, code-place, arity, Entry, entry-at, Slot, step, slots, Node-at}
+use Rattle.typing_expressions.specs.Nodes.{Tree-node, a-number, a-float, a-boolean, a-name, a-mask, a-unary, a-binary, nodes, node-tag, node-first, node-second, nodes-words, code-tag, code-place, arity, Entry, entry-at, Slot, step, slots, Node-at}
 use Rattle.typing_expressions.specs.Answers.{There-is, Expression, entry-out, Pushed, Types-node, Types-at, Codes-as, Codes-at, typed-out, Typing-room, Types-as, Types-expression}
 
 -- ---- nodes and words
@@ -39,6 +39,7 @@ words-append (n ∷ l) m = rw (words-append l m)
 flat-nodes : (e : Expr) → flat e ≡ nodes-words (nodes e)
 unfolding flat nodes nodes-words node-tag node-first node-second
 flat-nodes (number n) = refl
+flat-nodes (float-number n) = refl
 flat-nodes (boolean b) = refl
 flat-nodes (name p x) = refl
 flat-nodes current-mask = refl
@@ -53,6 +54,7 @@ pub data Stacked (text : List ℕ) : List Tree-node → ℕ → Type 0 where
 some : (e : Expr) → 1 ≤ height e
 unfolding height
 some (number n) = omega arith
+some (float-number n) = omega arith
 some (boolean b) = omega arith
 some (name p x) = omega arith
 some current-mask = omega arith
@@ -63,18 +65,23 @@ module _ {text : List ℕ} where
   one : (n : Tree-node) {l : List Tree-node} (h g : ℕ) → ((p : ℕ) (x : Name) → n ≡ a-name p x → Spelled text p x) → g ≡ h + 1 - arity n → arity n ≤ h → g ≤ stack-limit → Stacked text l g → Stacked text (n ∷ l) h
   one n {l} h g s e a b f = more {l = l} s a (rw (← e) b) (rw (← e) f)
 
+  -- A node without operands makes the stack one higher.
+  leaf : (n : Tree-node) {l : List Tree-node} (h : ℕ) → ((p : ℕ) (x : Name) → n ≡ a-name p x → Spelled text p x) → arity n ≡ 0 → h + 1 ≤ stack-limit → Stacked text l (h + 1) → Stacked text (n ∷ l) h
+  leaf n h s e b f = one n h (h + 1) s (omega arith) (omega arith) b f
+
   no-name : (n : Tree-node) → ((p : ℕ) (x : Name) → n ≡ a-name p x → _≡_ {A = ℕ} 0 1) → (p : ℕ) (x : Name) → n ≡ a-name p x → Spelled text p x
   no-name n h p x q = let z = h p x q in absurd (omega arith)
 
   fits-nodes : {e : Expr} → In-text text e → (h : ℕ) → h + height e ≤ stack-limit → (l : List Tree-node) → Stacked text l (h + 1) → Stacked text (nodes e ++ l) h
   unfolding nodes height arity
-  fits-nodes (of-number {n} m) h b l f = one (a-number n) h (h + 1) (no-name (a-number n) (λ p x q. cc)) (omega arith) (omega arith) b f
-  fits-nodes (of-boolean {b}) h r l f = one (a-boolean b) h (h + 1) (no-name (a-boolean b) (λ p x q. cc)) (omega arith) (omega arith) r f
-  fits-nodes (of-name {p} {x} s) h b l f = one (a-name p x) h (h + 1) (λ q y z. same q y z (cc) (cc)) (omega arith) (omega arith) b f
+  fits-nodes (of-number {n} m) h b l f = leaf (a-number n) h (no-name (a-number n) (λ p x q. cc)) refl b f
+  fits-nodes (of-float {n} m) h b l f = leaf (a-float n) h (no-name (a-float n) (λ p x q. cc)) refl b f
+  fits-nodes (of-boolean {b}) h r l f = leaf (a-boolean b) h (no-name (a-boolean b) (λ p x q. cc)) refl r f
+  fits-nodes (of-name {p} {x} s) h b l f = leaf (a-name p x) h (λ q y z. same q y z (cc) (cc)) refl b f
     where
       same : (q : ℕ) (y : Name) → a-name p x ≡ a-name q y → p ≡ q → x ≡ y → Spelled text q y
       same q y z i j = rw (← i, ← j) s
-  fits-nodes of-mask h b l f = one a-mask h (h + 1) (no-name a-mask (λ p x q. cc)) (omega arith) (omega arith) b f
+  fits-nodes of-mask h b l f = leaf a-mask h (no-name a-mask (λ p x q. cc)) refl b f
   fits-nodes (of-unary {p} {o} {a} i m) h b l f =
       rw (append-assoc (nodes a) (a-unary p o ∷ []) l)
       (fits-nodes m h b (a-unary p o ∷ l) (one (a-unary p o) (h + 1) (h + 1) (no-name (a-unary p o) (λ p x q. cc)) (omega arith) (omega arith) (omega (arith, some a)) f))
@@ -158,6 +165,7 @@ module _ (C : ℕ) where
   walk : (e : Expr) (l : List Tree-node) (v : Way) (Γ : Declarations) → run C (nodes e ++ l) v Γ ≡ after (typed C e Γ) (λ a Δ. run C l (entered a v) Δ)
   unfolding run nodes typed step arity code-tag code-place code-words
   walk (number n) l v Γ = refl
+  walk (float-number n) l v Γ = refl
   walk (boolean b) l v Γ = refl
   walk (name p x) l v Γ = simp after-after
   walk current-mask l v Γ = refl

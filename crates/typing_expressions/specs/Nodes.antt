@@ -5,13 +5,13 @@ use mathlib.Core.Bool.{Bool, true, false}
 use mathlib.Core.List.{List, [], _∷_, _++_}
 use lib.ListN.{length, getD}
 use Rattle.meaning.specs.declared.Kind.{Kind}
-use Rattle.meaning.specs.declared.Kind.the-variants.{Int as int, Bool as bool}
+use Rattle.meaning.specs.declared.Kind.the-variants.{Int as int, Bool as bool, Float as float}
 use Rattle.meaning.specs.declared.Refusal.the-variants.{WrongKind, WrongLength}
 use Rattle.meaning.specs.Codes.{_>>=_, _>>_, give, check}
 use Rattle.meaning.specs.Tokens.{the}
 use Rattle.meaning.specs.declared.Unary.{Unary}
 use Rattle.meaning.specs.declared.Binary.{Binary}
-use Rattle.meaning.specs.Tree.{Name, kind-number, _one-of_, Gives, a-bool, its-kind, table, unary-table, Expr, number, boolean, name, current-mask, unary, binary}
+use Rattle.meaning.specs.Tree.{Name, kind-number, _one-of_, Gives, a-bool, its-kind, table, unary-table, Expr, number, float-number, boolean, name, current-mask, unary, binary}
 use Rattle.meaning.specs.Memory.{bit}
 use Rattle.meaning.specs.Typing.{Types, accepts, gives-kind, match, joined, variable-named}
 use Rattle.layout.specs.Words.{unit-words, binary-tag, unary-tag, boolean-tag}
@@ -22,6 +22,7 @@ use Rattle.laws.specs.Sound.{Spelled, stack-limit}
 -- A node of an expression: a constant, a name or current_mask, or an operator with its place.
 pub data Tree-node : Type 0 where
   a-number : ℕ → Tree-node
+  a-float : ℕ → Tree-node
   a-boolean : Bool → Tree-node
   a-name : ℕ → Name → Tree-node
   a-mask : Tree-node
@@ -31,6 +32,7 @@ pub data Tree-node : Type 0 where
 -- The nodes of an expression.
 unfoldable pub nodes : Expr → List Tree-node
 nodes (number n) = a-number n ∷ []
+nodes (float-number n) = a-float n ∷ []
 nodes (boolean b) = a-boolean b ∷ []
 nodes (name p x) = a-name p x ∷ []
 nodes current-mask = a-mask ∷ []
@@ -40,6 +42,7 @@ nodes (binary p o e e′) = nodes e ++ (nodes e′ ++ (a-binary p o ∷ []))
 -- The three words of a node in the tree.
 unfoldable pub node-tag : Tree-node → ℕ
 node-tag (a-number n) = the "number"
+node-tag (a-float n) = the "float number"
 node-tag (a-boolean b) = boolean-tag b
 node-tag (a-name p x) = the "name"
 node-tag a-mask = the "current_mask"
@@ -48,6 +51,7 @@ node-tag (a-binary p o) = binary-tag o
 
 unfoldable pub node-first : Tree-node → ℕ
 node-first (a-number n) = n
+node-first (a-float n) = n
 node-first (a-boolean b) = 0
 node-first (a-name p x) = p
 node-first a-mask = 0
@@ -56,6 +60,7 @@ node-first (a-binary p o) = p
 
 unfoldable pub node-second : Tree-node → ℕ
 node-second (a-number n) = 0
+node-second (a-float n) = 0
 node-second (a-boolean b) = 0
 node-second (a-name p x) = p + length x
 node-second a-mask = 0
@@ -66,9 +71,10 @@ unfoldable pub nodes-words : List Tree-node → List ℕ
 nodes-words [] = []
 nodes-words (n ∷ ns) = node-tag n ∷ node-first n ∷ node-second n ∷ nodes-words ns
 
--- The tag of a node in the code: a boolean is a constant there.
+-- The tag of a node in the code: a float and a boolean are constants there, as a number is.
 unfoldable pub code-tag : Tree-node → ℕ
 code-tag (a-number n) = the "number"
+code-tag (a-float n) = the "number"
 code-tag (a-boolean b) = the "number"
 code-tag (a-name p x) = the "name"
 code-tag a-mask = the "current_mask"
@@ -78,6 +84,7 @@ code-tag (a-binary p o) = binary-tag o
 -- The third word of a node in the code: an operator's place.
 unfoldable pub code-place : Tree-node → ℕ
 code-place (a-number n) = 0
+code-place (a-float n) = 0
 code-place (a-boolean b) = 0
 code-place (a-name p x) = 0
 code-place a-mask = 0
@@ -87,6 +94,7 @@ code-place (a-binary p o) = p
 -- How many operands it takes from the stack.
 unfoldable pub arity : Tree-node → ℕ
 arity (a-number n) = 0
+arity (a-float n) = 0
 arity (a-boolean b) = 0
 arity (a-name p x) = 0
 arity a-mask = 0
@@ -111,6 +119,7 @@ Slot = Kind × ℕ
 -- Typing of a node over the operands on the stack, the last one first; it never meets a stack that is too short.
 unfoldable pub step : ℕ → Tree-node → List Slot → Types Entry
 step C (a-number n) l = give (record { kind = int; lanes = 1; word = n })
+step C (a-float n) l = give (record { kind = float; lanes = 1; word = n })
 step C (a-boolean b) l = give (record { kind = bool; lanes = 1; word = bit b })
 step C (a-name p x) l = do
   (i, d) ← variable-named C p x

@@ -10,7 +10,7 @@ use Rattle.meaning.specs.declared.Kind.{Kind}
 use Rattle.meaning.specs.declared.Kind.the-variants.{Bool as bool}
 use Rattle.meaning.specs.declared.Refusal.the-variants.{UnknownName, WrongKind, WrongLength, LengthOneTarget}
 use Rattle.meaning.specs.Codes.{if_then_else_, Out, ok, after, check, option, refuse, give, _>>_}
-use Rattle.meaning.specs.Tree.{Name, same-kind, _one-of_, table as signs, unary-table, Expr, number, boolean, name, current-mask, unary, binary}
+use Rattle.meaning.specs.Tree.{Name, same-kind, _one-of_, table as signs, unary-table, Expr, number, float-number, boolean, name, current-mask, unary, binary}
 use Rattle.meaning.specs.Memory.{Declared, Declarations, declared}
 use Rattle.meaning.specs.Typing as T
 use Rattle.meaning.specs.Typing.{typed, typed-condition, storable, find, fits, joined, variable-named}
@@ -65,6 +65,7 @@ module _ {C count : ℕ} {text table : List ℕ} (c : Listed-length C) (r : Rows
   good-typed : (e : Expr) → Good (entries text table count) (typed C e (entries text table count))
   unfolding typed
   good-typed (number n) = well (refl, listed-one)
+  good-typed (float-number n) = well (refl, listed-one)
   good-typed (boolean b) = well (refl, listed-one)
   good-typed (name p x) = keeping _ (good-name p x) (λ x l. well (refl, l))
   good-typed current-mask = well (refl, c)

@@ -9,7 +9,7 @@ use lib.Dec.{eqb}
 use borrow.Author.Tests.{ne-eqb}
 use lib.ListN.{length, getD}
 use Rattle.meaning.specs.declared.Kind.{Kind}
-use Rattle.meaning.specs.declared.Kind.the-variants.{Int as int, Bool as bool}
+use Rattle.meaning.specs.declared.Kind.the-variants.{Int as int, Bool as bool, Float as float}
 use Rattle.meaning.specs.Codes.{_among_, lengths}
 use Rattle.meaning.specs.Tokens.{the, numbered, reserved, words, signs, marks}
 use Rattle.meaning.specs.Tree.{Expr, Block, Stmt}
@@ -27,11 +27,19 @@ pub named-int : (k : Kind) → kind-tag k ≡ 16 → int ≡ k
 unfolding kind-tag the numbered reserved words signs marks
 named-int int h = refl
 named-int bool h = absurd (omega arith)
+named-int float h = absurd (omega arith)
 
-pub named-bool : (k : Kind) → (kind-tag k ≡ 16 → ⊥) → bool ≡ k
+pub named-bool : (k : Kind) → kind-tag k ≡ 17 → bool ≡ k
 unfolding kind-tag the numbered reserved words signs marks
-named-bool int h = absurd (h refl)
+named-bool int h = absurd (omega arith)
 named-bool bool h = refl
+named-bool float h = absurd (omega arith)
+
+pub named-float : (k : Kind) → (kind-tag k ≡ 16 → ⊥) → (kind-tag k ≡ 17 → ⊥) → float ≡ k
+unfolding kind-tag the numbered reserved words signs marks
+named-float int h g = absurd (h refl)
+named-float bool h g = absurd (g refl)
+named-float float h g = refl
 
 -- ---- its length
 -- A place of 0 says that there is no block.

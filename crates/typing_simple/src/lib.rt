@@ -180,10 +180,10 @@ pub fn assignment(
 fn kind_named(tag: u32) -> Kind
     ensures { λ r. ⌜ Names-kind tag r ⌝ }
 {
-    if tag == tag::INT {
-        Kind::Int
-    } else {
-        Kind::Bool
+    match tag {
+        tag::INT => Kind::Int,
+        tag::BOOL => Kind::Bool,
+        _ => Kind::Float,
     }
 }
 

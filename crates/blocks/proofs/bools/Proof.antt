@@ -4,7 +4,7 @@ use mathlib.Core.Path.{refl, _∙_}
 use lib.ListN.{length, drop}
 use Rattle.meaning.specs.declared.Kind.the-variants.{Bool as bool}
 use Rattle.meaning.specs.Memory.{load}
-use Rattle.blocks.proofs.Making.{Making, begun, one-made, made-padded}
+use Rattle.laws.proofs.Making.{Making, begun, one-made, made-padded}
 use Rattle.blocks.proofs.Bytes.{length-load, whole-bool, bool-at}
 use borrow.Author.Needs.{needs}
 use Rattle.blocks.proofs.bools.Statement.{statement}

@@ -3,7 +3,8 @@ use Prim.Native.Nat.{_-_, _+_, _≤_}
 use mathlib.Core.Path.{refl}
 use native.Mathlib.Omega.{arith}
 use lib.ListN.{length, take, drop}
-use Rattle.blocks.proofs.Making.{Making, begun, one-made, made, length-register, register-at}
+use Rattle.laws.proofs.Making.{Making, begun, one-made, made}
+use Rattle.blocks.proofs.Chunks.{length-register, register-at}
 use borrow.Author.Needs.{needs}
 use Rattle.blocks.proofs.get.Statement.{statement}
 use Rattle.blocks.proofs.get.Tie as tie

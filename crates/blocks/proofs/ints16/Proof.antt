@@ -5,7 +5,7 @@ use native.Mathlib.Omega.{arith}
 use lib.ListN.{length, drop}
 use Rattle.meaning.specs.declared.Kind.the-variants.{Int as int}
 use Rattle.meaning.specs.Memory.{load}
-use Rattle.blocks.proofs.Making.{Making, begun, one-made, made}
+use Rattle.laws.proofs.Making.{Making, begun, one-made, made}
 use Rattle.blocks.proofs.Bytes.{length-load, whole-int, int-at}
 use borrow.Author.Needs.{needs}
 use Rattle.blocks.proofs.ints16.Statement.{statement}

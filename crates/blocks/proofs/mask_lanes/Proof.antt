@@ -5,7 +5,7 @@ use mathlib.Core.List.{map}
 use native.Mathlib.Omega.{arith}
 use Rattle.meaning.specs.Memory.{bit}
 use Rattle.blocks.specs.Masks.{bits}
-use Rattle.blocks.proofs.Making.{Making, begun, one-made, made}
+use Rattle.laws.proofs.Making.{Making, begun, one-made, made}
 use Rattle.blocks.proofs.Masks.{length-mask, mask-at}
 use borrow.Author.Needs.{needs}
 use Rattle.blocks.proofs.mask_lanes.Statement.{statement}

@@ -1,7 +1,7 @@
 -- `blocks::put` meets its contract. Assumes nothing.
 use Prim.Native.Nat.{_-_}
 use mathlib.Core.Path.{refl}
-use Rattle.blocks.proofs.Making.{Pasting, paste-begun, one-pasted, pasted}
+use Rattle.blocks.proofs.Chunks.{Pasting, paste-begun, one-pasted, pasted}
 use borrow.Author.Needs.{needs}
 use Rattle.blocks.proofs.put.Statement.{statement}
 use Rattle.blocks.proofs.put.Tie as tie

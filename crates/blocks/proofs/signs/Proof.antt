@@ -1,62 +1,26 @@
 -- `blocks::signs` meets its contract. Assumes nothing.
-use Prim.Native.Nat.{_-_}
-use mathlib.Core.Path.{refl, _∙_}
-use Rattle.meaning.specs.Running.{word-unary}
-use Rattle.blocks.proofs.Making.{Mapping, map-begun, one-mapped, mapped}
-use Rattle.blocks.proofs.Lists.{unary-words}
+use mathlib.Core.Path.{_∙_}
+use Rattle.meaning.specs.Running.{unary-of}
+use Rattle.blocks.proofs.ByKind.{unary-words}
 use borrow.Author.Needs.{needs}
 use Rattle.blocks.proofs.signs.Statement.{statement}
 use Rattle.blocks.proofs.signs.Tie as tie
 
-abbrev Inv-loop : tie.InvT-loop
-Inv-loop operator x r₀ i₀ r i = Mapping (word-unary operator) x r i
+word-signs-requires : tie.Need-word-signs-requires
+word-signs-requires c κs = search needs
 
-abbrev μ-loop : tie.MeasureT-loop
-μ-loop operator x r₀ i₀ r i = 16 - i
+enum-told : tie.Need-enum-told
+enum-told c = search needs
 
-loop-holds : tie.Need-loop-holds Inv-loop μ-loop
-loop-holds c = map-begun _ _ _ (search needs) refl
+single-signs-requires : tie.Need-single-signs-requires
+single-signs-requires c κs = search needs
 
-mul-sign : tie.Need-mul-sign Inv-loop μ-loop
-mul-sign c = search needs
+returns : tie.Need-returns
+returns c = let a = c .before .before .args in c .word-signs .ensures ∙ unary-words (a .kind) (c .before .match .keys1) (a .operator) (a .x)
 
-array-read-sign : tie.Need-array-read-sign Inv-loop μ-loop
-array-read-sign c = search needs
-
-sign-requires : tie.Need-sign-requires Inv-loop μ-loop
-sign-requires c κs = search needs
-
-mul-r : tie.Need-mul-r Inv-loop μ-loop
-mul-r c = search needs
-
-array-write-r : tie.Need-array-write-r Inv-loop μ-loop
-array-write-r c = search needs
-
-add-i : tie.Need-add-i Inv-loop μ-loop
-add-i c = search needs
-
-loop-less : tie.Need-loop-less Inv-loop μ-loop
-loop-less c = search needs
-
-loop-again : tie.Need-loop-again Inv-loop μ-loop
-loop-again c = one-mapped (c .before .before .loop .inv) _ (c .before .loop-test .taken) (c .sign .ensures)
-
-returns : tie.Need-returns Inv-loop μ-loop
-returns c = mapped (c .before .loop .inv) (c .loop-test .left) ∙ unary-words (c .before .before .args .kind) (c .before .before .args .operator) (c .before .before .args .t3)
+returns-2 : tie.Need-returns-2
+unfolding unary-of
+returns-2 c = rw (c .before .enum-told .given .1) (c .single-signs .ensures)
 
 pub signs-spec : {M : Type 1} → statement M
-signs-spec =
-    tie.close
-    (tie.spec
-    Inv-loop
-    μ-loop
-    loop-holds
-    mul-sign
-    array-read-sign
-    sign-requires
-    mul-r
-    array-write-r
-    add-i
-    loop-less
-    loop-again
-    returns)
+signs-spec = tie.close (tie.spec word-signs-requires enum-told single-signs-requires returns returns-2)

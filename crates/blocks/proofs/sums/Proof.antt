@@ -3,7 +3,7 @@ use Prim.Native.Nat.{_-_}
 use mathlib.Core.Path.{refl}
 use Rattle.meaning.specs.Running.{word-binary}
 use Rattle.operators.specs.Operators.{Sum}
-use Rattle.blocks.proofs.Making.{Zipping, zip-begun, one-zipped, zipped}
+use Rattle.laws.proofs.Making.{Zipping, zip-begun, one-zipped, zipped}
 use borrow.Author.Needs.{needs}
 use Rattle.blocks.proofs.sums.Statement.{statement}
 use Rattle.blocks.proofs.sums.Tie as tie

@@ -6,7 +6,7 @@ use borrow.Author.Needs.{needs}
 use borrow.Author.Tests.{not-true, not-false}
 use borrow.Fn.Kinds.{In}
 use borrow.Fn.PlainCycle.{Measures, is, falls, and}
-use Rattle.meaning.specs.declared.Kind.the-variants.{Int as int, Bool as bool}
+use Rattle.meaning.specs.declared.Kind.the-variants.{Int as int, Bool as bool, Float as float}
 use Rattle.meaning.specs.Tokens.{the, words, marks, numbered, reserved, signs}
 use Rattle.layout.specs.Words.{kind-tag, flat-stmts}
 use Rattle.layout.proofs.token.kind.Reads as kind-reads
@@ -440,30 +440,34 @@ module _ (t : ℕ) where
   unfolding the words marks numbered reserved signs kind-tag
   statement-declaration-requires-2 c κs = (c .before .before .before .before .before .pre .1, record { kind = bool; is = sym (c .before .before .kind .ensures) ∙ c .before .match .keys4 })
 
+  statement-declaration-requires-3 : statement-lts.Need-declaration-requires-3 (statement-claims t) (statement-at t) statement′.Post
+  unfolding the words marks numbered reserved signs kind-tag
+  statement-declaration-requires-3 c κs = (c .before .before .before .before .before .pre .1, record { kind = float; is = sym (c .before .before .kind .ensures) ∙ c .before .match .keys5 })
+
   statement-assignment-requires : statement-lts.Need-assignment-requires (statement-claims t) (statement-at t) statement′.Post
   unfolding the words marks numbered reserved signs
-  statement-assignment-requires c κs = (c .before .before .before .before .before .pre .1, sym (c .before .before .kind .ensures) ∙ c .before .match .keys5)
+  statement-assignment-requires c κs = (c .before .before .before .before .before .pre .1, sym (c .before .before .kind .ensures) ∙ c .before .match .keys6)
 
   statement-if-else-requires : statement-lts.Need-if-else-requires (statement-claims t) (statement-at t) statement′.Post
   unfolding the words marks numbered reserved signs
-  statement-if-else-requires c κs = (omega arith, (c .before .before .before .before .before .pre .1, sym (c .before .before .kind .ensures) ∙ c .before .match .keys6))
+  statement-if-else-requires c κs = (omega arith, (c .before .before .before .before .before .pre .1, sym (c .before .before .kind .ensures) ∙ c .before .match .keys7))
 
   statement-while-loop-requires : statement-lts.Need-while-loop-requires (statement-claims t) (statement-at t) statement′.Post
   unfolding the words marks numbered reserved signs
-  statement-while-loop-requires c κs = (omega arith, (c .before .before .before .before .before .pre .1, sym (c .before .before .kind .ensures) ∙ c .before .match .keys7))
+  statement-while-loop-requires c κs = (omega arith, (c .before .before .before .before .before .pre .1, sym (c .before .before .kind .ensures) ∙ c .before .match .keys8))
 
   statement-scalar-requires : statement-lts.Need-scalar-requires (statement-claims t) (statement-at t) statement′.Post
   unfolding the words marks numbered reserved signs
-  statement-scalar-requires c κs = (omega arith, (c .before .before .before .before .before .pre .1, sym (c .before .before .kind .ensures) ∙ c .before .match .keys8))
+  statement-scalar-requires c κs = (omega arith, (c .before .before .before .before .before .pre .1, sym (c .before .before .kind .ensures) ∙ c .before .match .keys9))
 
   statement-returns : statement-lts.Need-returns (statement-claims t) (statement-at t) statement′.Post
   statement-returns c =
       let is = sym (c .before .before .before .before .before .before .kind .ensures) ∙ c .before .before .before .before .before .match .keys1 in
       answers.shows-leaf (rw (c .before .before .before .place .ensures) at (c .before .before .node .ensures)) (answers.goes-on (c .before .before .before .before .before .before .before .before .before .pre .1) is (omega arith)) (λ ts h. law.read-empty _ (seen h (search needs)) is)
 
-  statement-returns-9 : statement-lts.Need-returns-9 (statement-claims t) (statement-at t) statement′.Post
-  statement-returns-9 c = answers.shows-refused (search)
-      (λ ts h. law.read-none _ (seen h (search needs)) (c .before .before .kind .ensures) (search) (search) (search) (search) (search) (search) (search) (search))
+  statement-returns-10 : statement-lts.Need-returns-10 (statement-claims t) (statement-at t) statement′.Post
+  statement-returns-10 c = answers.shows-refused (search)
+      (λ ts h. law.read-none _ (seen h (search needs)) (c .before .before .kind .ensures) (search) (search) (search) (search) (search) (search) (search) (search) (search))
 
 pub +braces+if-else+opening+otherwise+scalar+statement+statements+while-loop-spec : {M : Type 1} → statement M
 +braces+if-else+opening+otherwise+scalar+statement+statements+while-loop-spec =
@@ -550,6 +554,7 @@ pub +braces+if-else+opening+otherwise+scalar+statement+statements+while-loop-spe
     (statement-braces-requires t)
     (statement-declaration-requires t)
     (statement-declaration-requires-2 t)
+    (statement-declaration-requires-3 t)
     (statement-assignment-requires t)
     (statement-if-else-requires t)
     (statement-while-loop-requires t)
@@ -571,7 +576,9 @@ pub +braces+if-else+opening+otherwise+scalar+statement+statements+while-loop-spe
     (λ c. search needs)
     (λ c. search needs)
     (λ c. search needs)
-    (statement-returns-9 t))
+    (λ c. search needs)
+    (λ c. search needs)
+    (statement-returns-10 t))
     (λ t. statements-lts.spec (statements-claims t) (statements-at t) statements.Post statements-Inv-loop statements-μ-loop
     (statements-loop-holds t)
     (statements-kind-requires t)

@@ -65,10 +65,11 @@ returns-3 c =
     let pre = start .pre in
     let ended = named .before .before .expect .ensures .done _ _ (named .named .given .1) in
     let spelled = rw (initial′ .before .before .before .place2 .ensures) at (c .before .before .before .before .before .before .put-unit .ensures) in
-    let head = rw (kind .kind .ensures, named .before .before .before .place .ensures) at (c .before .before .put-head .ensures .1) in
+    let head = rw (named .before .before .before .place .ensures) at (c .before .before .put-head .ensures .1) in
     shows-then (initial′ .initial .ensures) (rest .rest .given .1) (c .before .before .put-head .ensures .0) (λ m. omega (arith, ended .1, pre .1 .1))
     (λ ts h m d. law.declared-read _ (seen h (pre .0 .within)) (pre .1 .0) (pre .1 .1 .what ts h) (seen h (pre .1 .1 .within)) (ended .0)
-    (omega (arith, pre, ended .1)) (omega (arith, pre, ended .1, initial′ .initial .kept)) (rw (ended .1, initial′ .before .before .value .ensures) at d) spelled head)
+    (kind .kind .ensures) (omega (arith, pre, ended .1)) (omega (arith, pre, ended .1, initial′ .initial .kept))
+    (rw (ended .1, initial′ .before .before .value .ensures) at d) spelled head)
 
 pub declared-spec : {M : Type 1} → statement M
 declared-spec =

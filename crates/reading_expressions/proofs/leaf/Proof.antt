@@ -10,7 +10,7 @@ use Rattle.reading_expressions.proofs.leaf.Tie as tie
 node-requires : tie.Need-node-requires
 node-requires c κs =
     let arm = c .before .before in
-    unit-fits (arm .before .before .before .before .pre .0) (sym (arm .before .kind .ensures) ∙ arm .match .keys1) (omega arith)
+    unit-fits (arm .before .before .before .before .pre .0) (sym (arm .before .kind .ensures)) (law.constant-above (arm .match .keys1))
 
 node-requires-2 : tie.Need-node-requires-2
 node-requires-2 c κs =
@@ -35,9 +35,10 @@ node-requires-5 c κs =
 returns : tie.Need-returns
 returns c =
     let arm = c .before .before .before .before .before in
-    let is = sym (arm .before .kind .ensures) ∙ arm .match .keys1 in
+    let kind = arm .before .kind .ensures in
     let put = rw (c .before .before .before .value .ensures) at (c .before .before .node .ensures) in
-    shows-leaf put (goes-on (arm .before .before .before .before .pre .0) is (omega arith)) (λ ts h. law.read-number 0 (law.seen h (search needs)) is)
+    shows-leaf put (goes-on (arm .before .before .before .before .pre .0) (sym kind) (law.constant-above (arm .match .keys1)))
+    (λ ts h. law.read-constant 0 (law.seen h (search needs)) kind (arm .match .keys1))
 
 returns-2 : tie.Need-returns-2
 returns-2 c =

@@ -53,22 +53,18 @@ returns-3 c =
     c .word-of .ensures
     ∙ rw (at-word (plain (test .before .before)) (sym (test .before .is-letter .ensures) ∙ test .if3 .taken), run .run3 .ensures)
 
-slice-aggregate-number-of : tie.Need-slice-aggregate-number-of
-slice-aggregate-number-of c = rw (c .before .run4 .ensures, run-length)
-
-number-of-requires : tie.Need-number-of-requires
-number-of-requires c κs =
-    let test = c .before .before in
-    let some-bytes = plain (test .before .before .before .before) .some-bytes in
-    rw (c .before .run4 .ensures) (some-digits _ some-bytes (sym (test .before .is-digit .ensures) ∙ test .if4 .taken), run-take digit _)
+-- A digit begins.
+numeral-requires : tie.Need-numeral-requires
+numeral-requires c κs =
+    let some-bytes = plain (c .before .before .before .before) .some-bytes in
+    rw (run-length digit _) at (some-digits (start (c .before .before .before .before) .args .s .now) some-bytes (sym (c .before .is-digit .ensures) ∙ c .if4 .taken))
 
 returns-4 : tie.Need-returns-4
 returns-4 c =
-    let run = c .before .before in
-    let test = run .before in
+    let test = c .before in
     let past = test .before .before in
-    c .number-of .ensures (start (past .before .before) .args .at)
-    ∙ rw (at-number (plain (past .before .before)) (sym (past .before .is-letter .ensures) ∙ past .if3 .left) (sym (test .before .is-digit .ensures) ∙ test .if4 .taken), run .run4 .ensures)
+    c .numeral .ensures (start (past .before .before) .args .at)
+    ∙ rw (at-number (plain (past .before .before)) (sym (past .before .is-letter .ensures) ∙ past .if3 .left) (sym (test .before .is-digit .ensures) ∙ test .if4 .taken))
 
 returns-5 : tie.Need-returns-5
 returns-5 c =
@@ -97,9 +93,7 @@ next-spec =
     word-of-requires
     returns-3
     (λ c κs. search needs)
-    (λ c κs. search needs)
-    slice-aggregate-number-of
-    number-of-requires
+    numeral-requires
     returns-4
     (λ c κs. search needs)
     returns-5)

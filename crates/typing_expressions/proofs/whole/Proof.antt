@@ -3,25 +3,22 @@ use native.Mathlib.Omega.{arith}
 use borrow.Author.Needs.{needs}
 use Rattle.meaning.specs.Memory.{whole, size}
 use Rattle.laws.proofs.Declarations.{listed-few}
+use Rattle.typing_expressions.proofs.Tags.{four-bytes}
 use Rattle.typing_expressions.proofs.whole.Statement.{statement}
 use Rattle.typing_expressions.proofs.whole.Tie as tie
+
+mul-result : tie.Need-mul-result
+mul-result c = omega (arith, listed-few _ (c .before .pre .is))
 
 enum-told : tie.Need-enum-told
 enum-told c = search needs
 
-mul-result : tie.Need-mul-result
-mul-result c = omega (arith, listed-few _ (c .before .before .pre .is))
-
-enum-told-2 : tie.Need-enum-told-2
-enum-told-2 c = search needs
-
 returns : tie.Need-returns
-unfolding whole size
-returns c = rw (c .enum-told .given .1)
+returns c = let start = c .before in four-bytes (start .args .kind) (start .args .length) (c .match .keys1)
 
 returns-2 : tie.Need-returns-2
 unfolding whole size
-returns-2 c = rw (c .enum-told2 .given .1) (omega arith)
+returns-2 c = rw (c .enum-told .given .1) (omega arith)
 
 pub whole-spec : {M : Type 1} → statement M
-whole-spec = tie.close (tie.spec enum-told mul-result enum-told-2 returns returns-2)
+whole-spec = tie.close (tie.spec mul-result enum-told returns returns-2)

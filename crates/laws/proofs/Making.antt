@@ -1,13 +1,12 @@
--- A loop that makes a chunk from its front, a lane a turn: zeros stand behind what is made.
+-- A loop that makes a chunk of 16 lanes from its front, a lane a turn: zeros stand behind what is made.
 use Prim.Native.Nat.{ℕ, suc, _+_, _-_, _<_, _≤_}
-use mathlib.Core.Path.{_≡_, refl, sym, _∙_}
+use mathlib.Core.Path.{_≡_, sym, _∙_}
 use mathlib.Core.List.{List, [], _∷_, _++_, zipWith, map, append-nil, append-assoc}
 use native.Mathlib.Omega.{arith}
 use native.Mathlib.Numerals.{add-one}
-use lib.ListN.{length, getD, take, drop, set, replicate, length-drop, length-set, length-map}
-use lib.Seq.{getD-take, getD-drop, drop-drop, length-take-le, take-suc, take-length, take-all, set-at, paste, paste-zero, paste-suc}
-use Rattle.blocks.specs.Chunks.{placed, padded, in-chunk}
-use Rattle.blocks.proofs.Lists.{length-zip, zip-at, map-at}
+use lib.ListN.{length, getD, take, set, replicate, length-map}
+use lib.Seq.{length-take-le, take-suc, take-length, set-at}
+use Rattle.laws.proofs.Lists.{length-zip, zip-at, map-at}
 
 -- After i turns.
 pub record Making (goal r : List ℕ) (i : ℕ) : Type 0 where
@@ -29,7 +28,7 @@ module _ {goal r : List ℕ} {i : ℕ} (m : Making goal r i) where
             (sym (append-assoc (take i goal) (v ∷ []) (replicate (16 - suc i) 0)));
       }
 
-  pub made-padded : length goal ≤ i → r ≡ padded goal
+  pub made-padded : length goal ≤ i → r ≡ goal ++ replicate (16 - length goal) 0
   made-padded h =
       let e : i ≡ length goal = omega (arith, m .within) in
       m .is ∙ rw (e, take-length goal)
@@ -74,50 +73,3 @@ module _ {f : ℕ → ℕ} {x r : List ℕ} {i : ℕ} (m : Mapping f x r i) wher
 
   pub mapped : 16 ≤ i → r ≡ map f x
   mapped = made (m .making) (length-map x f ∙ m .lanes)
-
--- A register's lanes.
-module _ (l : List ℕ) (at : ℕ) (h : at + 16 ≤ length l) where
-  pub length-register : length (take 16 (drop at l)) ≡ 16
-  length-register = length-take-le 16 (drop at l) (omega (arith, length-drop at l))
-
-  pub register-at : (i : ℕ) → i < 16 → getD l (at + i) 0 ≡ getD (take 16 (drop at l)) i 0
-  register-at i k = sym (getD-take 16 (drop at l) i 0 k ∙ getD-drop at l i 0)
-
--- A loop that puts a chunk into a register.
-pub record Pasting (l₀ : List ℕ) (at : ℕ) (x l : List ℕ) (i : ℕ) : Type 0 where
-  pub lanes : length x ≡ 16
-  pub room : at + 16 ≤ length l₀
-  pub few : i ≤ 16
-  pub size : length l ≡ length l₀
-  pub is : l ≡ paste l₀ at x i
-
-pub paste-begun : (l : List ℕ) (at : ℕ) (x : List ℕ) → length x ≡ 16 → at + 16 ≤ length l → Pasting l at x l 0
-paste-begun l at x e h = record { lanes = e; room = h; few = omega arith; size = refl; is = paste-zero l at x }
-
-module _ {l₀ x l : List ℕ} {at i : ℕ} (p : Pasting l₀ at x l i) where
-  pub one-pasted : i < 16 → {v : ℕ} → v ≡ getD x i 0 → Pasting l₀ at x (set l (at + i) v) (i + 1)
-  one-pasted h {v} e = record {
-    lanes = p .lanes;
-    room = p .room;
-    few = omega arith;
-    size = length-set l (at + i) v ∙ p .size;
-    is = rw (e, p .is, add-one i) (paste-suc l₀ at x i 0 (omega (arith, p .room)) (omega (arith, p .lanes)));
-  }
-
-  pub pasted : 16 ≤ i → l ≡ placed l₀ at 16 x
-  pasted h =
-      let e : i ≡ 16 = omega (arith, p .few) in
-      p .is ∙ rw (e, take-all 16 x (omega (arith, p .lanes)), drop-drop 16 at l₀) (append-assoc (take at l₀) x (drop (at + 16) l₀))
-
--- A value in a chunk: one lane, or another number of them.
-pub one-in-chunk : (v : List ℕ) → length v ≡ 1 → replicate 16 (getD (padded v) 0 0) ≡ in-chunk v
-unfolding in-chunk
-one-in-chunk [] h = absurd (omega arith)
-one-in-chunk (x ∷ []) h = refl
-one-in-chunk (x ∷ y ∷ v) h = absurd (omega arith)
-
-pub more-in-chunk : (v : List ℕ) → (length v ≡ 1 → ⊥) → padded v ≡ in-chunk v
-unfolding in-chunk
-more-in-chunk [] h = refl
-more-in-chunk (x ∷ []) h = absurd (h refl)
-more-in-chunk (x ∷ y ∷ v) h = refl

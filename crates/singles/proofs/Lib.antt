@@ -1,0 +1,10 @@
+pub mod Patterns
+pub mod Units
+pub mod Rounding
+pub mod Signs
+pub mod Comparisons
+pub mod OnePattern
+pub mod Numbers
+pub mod Operations
+pub mod Constants
+pub mod Singles

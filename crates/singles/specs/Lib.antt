@@ -1,0 +1,7 @@
+pub mod Patterns
+pub mod Rounding
+pub mod Numbers
+pub mod Comparisons
+pub mod Operations
+pub mod Constants
+pub mod Singles
