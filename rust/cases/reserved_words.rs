@@ -3,8 +3,8 @@
 use crate::common::{after, numbers, verdict};
 use crate::side::judge;
 
-/// "Reserved: int bool block if else while scalar current_mask true false."
-const RESERVED: &str = "int bool block if else while scalar current_mask true false";
+/// "Reserved: int bool block if else while scalar current_mask true false.", and by R-2 `float`.
+const RESERVED: &str = "int bool block if else while scalar current_mask true false float";
 
 /// The reserved words, one by one.
 fn reserved() -> impl Iterator<Item = &'static str> {
@@ -36,6 +36,12 @@ fn check_near(word: &str) {
 fn scalar_and_current_mask_are_no_names() {
     assert_eq!(verdict("int scalar;"), (3, 4));
     assert_eq!(verdict("int current_mask;"), (3, 4));
+}
+
+/// Reserved since R-2.
+#[test]
+fn float_is_no_name() {
+    assert_eq!(verdict("int float;"), (3, 4));
 }
 
 #[test]

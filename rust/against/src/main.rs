@@ -94,8 +94,8 @@ fn print(tally: &Tally, start: Instant) {
     println!("no difference: {cases} cases, {calls} calls on each side, {seconds:.1} s");
     println!("  {images} images run by run_each");
     println!(
-        "  {} texts accepted, {} of them with a block of more than 16 lanes",
-        tally.accepted, tally.long
+        "  {} texts accepted, {} of them with a block of more than 16 lanes, {} with floats",
+        tally.accepted, tally.long, tally.floats
     );
     for (sort, count) in &tally.sorts {
         println!("  {sort:>12} {count:>9}");

@@ -3,6 +3,7 @@
 use crate::compare::{compare, smallest, Difference, Made};
 use crate::plan::Plan;
 use generate::{mixed, Case, Sort};
+use ruihmento::{Kind, Variable};
 use std::collections::BTreeMap;
 use std::fmt;
 use std::ops::Range;
@@ -30,6 +31,8 @@ pub struct Tally {
     pub accepted: u64,
     /// How many of these have a block of more than 16 lanes.
     pub long: u64,
+    /// How many of these have a float.
+    pub floats: u64,
 }
 
 impl Tally {
@@ -46,6 +49,8 @@ impl Tally {
             let long = listed.list.iter().any(|variable| variable.length > 16);
             self.accepted += 1;
             self.long += u64::from(long);
+            let float = |variable: &Variable| variable.kind == Kind::Float;
+            self.floats += u64::from(listed.list.iter().any(float));
         }
     }
 
@@ -56,6 +61,7 @@ impl Tally {
         self.images += other.images;
         self.accepted += other.accepted;
         self.long += other.long;
+        self.floats += other.floats;
         for (sort, count) in other.sorts {
             *self.sorts.entry(sort).or_default() += count;
         }

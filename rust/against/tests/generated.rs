@@ -45,6 +45,8 @@ fn archive_and_independent_implementation_agree() {
         assert!(images >= 100_000, "{images} images");
         let percent = 100 * tally.long / tally.accepted;
         assert!((30..=40).contains(&percent), "{percent} % have long blocks");
+        let percent = 100 * tally.floats / tally.accepted;
+        assert!((35..=55).contains(&percent), "{percent} % have floats");
     }
     assert!(tally.codes.keys().all(|code| *code <= 13), "{tally:?}");
 }

@@ -1,7 +1,7 @@
 //! Demand 3 on the archive: one lane of a run is the run of that lane.
 
 use generate::{memory_for, narrow, well_typed_text, Random, Wishes, BLOCK_LENGTHS};
-use ruihmento::{run, variables, Variable, Variables};
+use ruihmento::{run, variables, Kind, Variable, Variables};
 use std::ops::Range;
 
 /// The budget of the full runs.
@@ -61,9 +61,18 @@ fn check_lanes(text: &[u8], length: usize, memory: &[u8], steps: u32, left: &[u8
     fewer
 }
 
+/// Whether an accepted text has floats.
+fn has_floats(text: &[u8]) -> bool {
+    let listed = variables(text).expect("the program is accepted");
+    listed
+        .list
+        .iter()
+        .any(|variable| variable.kind == Kind::Float)
+}
+
 #[test]
 fn one_lane_of_a_run_is_the_run_of_that_lane() {
-    let (mut checked, mut fewer) = ([0; BLOCK_LENGTHS.len()], 0);
+    let (mut checked, mut fewer, mut floats) = ([0; BLOCK_LENGTHS.len()], 0, 0);
     for index in 0..3000 {
         let (text, length, memory) = program(index);
         let mut left = memory.clone();
@@ -72,10 +81,12 @@ fn one_lane_of_a_run_is_the_run_of_that_lane() {
             fewer += check_lanes(&text, length, &memory, answer.steps, &left);
             let of_length = BLOCK_LENGTHS.iter().position(|known| *known == length);
             checked[of_length.expect("it is one of the lengths")] += 1;
+            floats += usize::from(has_floats(&text));
         }
     }
     assert!(checked.iter().all(|runs| *runs > 300), "{checked:?} runs");
     assert!(fewer > 1000, "{fewer} lanes took fewer steps");
+    assert!(floats > 600, "{floats} runs with floats");
 }
 
 #[test]

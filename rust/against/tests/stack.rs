@@ -47,6 +47,12 @@ fn pending(lanes: usize) -> Vec<u8> {
     format!("int block[{lanes}] a; a = {open}a{close};").into_bytes()
 }
 
+/// The same in floats.
+fn pending_floats(lanes: usize) -> Vec<u8> {
+    let (open, close) = ("a+a*(".repeat(32), ")".repeat(32));
+    format!("float block[{lanes}] a; a = {open}a{close};").into_bytes()
+}
+
 /// Long and deep texts.
 fn texts() -> Vec<Vec<u8>> {
     let mut texts = vec![
@@ -82,6 +88,14 @@ fn texts() -> Vec<Vec<u8>> {
         ),
         pending(64),
         pending(32),
+        filled("float a; a = a", "+a", ";"),
+        filled("float block[64] a; a = a", "*-a", ";"),
+        filled(
+            "float block[64] a; bool block[64] b; b = b",
+            "|a<1.0+2.0*a",
+            ";",
+        ),
+        pending_floats(64),
     ];
     // Every variable of the greatest size, and written.
     let declared = (0..64).map(|n| format!("int block[64] v{n}={n};"));

@@ -3,7 +3,7 @@
 
 mod pages;
 
-use against::{Archive, Call, Oracle, Plan, Service};
+use against::{Archive, Call, Left, Oracle, Plan, Service};
 use generate::{mixed, Random, Shape, BLOCK_LENGTHS};
 use pages::{Flush, Room, Watch, PAGE};
 
@@ -17,7 +17,7 @@ const CASES: usize = 2_000;
 const EVERY_TOKEN: &str = "bool block[64] ok; int block[16] s = 2147483647; // a comment\n\
     { int a_name_of_exactly_31_bytes_here = 0; bool b = !(true & false) | false ^ true; }\r\n\
     \tif (s <= 10 == (s >= ~7)) { s = -s * 3 + 2 - s; } else while (s < 9 != current_mask) ;\n\
-    scalar { bool c = 1 > 2; } if (ok) ; else ; //";
+    scalar { bool c = 1 > 2; } if (ok) ; else ; float f = -16777216.0*3.0; f=0.0; //";
 
 /// One room for each slice of a call.
 struct Rooms {
@@ -37,9 +37,8 @@ impl Rooms {
     }
 
     /// Makes the call on the archive, each slice flush in this way, and compares all that it
-    /// returns and leaves with the independent implementation.
-    fn check(&mut self, text: &[u8], call: &Call, flush: Flush) {
-        let expected = call.perform(&Oracle, text);
+    /// returns and leaves with what the independent implementation does.
+    fn check(&mut self, text: &[u8], call: &Call, expected: &Left, flush: Flush) {
         let lent = self.text.lend_to_read(text, flush);
         let bytes = self.bytes.lend(&call.bytes_before(), flush);
         let answer = self.answer.lend(&call.answer_before(), flush);
@@ -52,8 +51,9 @@ impl Rooms {
 
     /// Both ways.
     fn check_both(&mut self, text: &[u8], call: &Call) {
-        self.check(text, call, Flush::Front);
-        self.check(text, call, Flush::Back);
+        let expected = call.perform(&Oracle, text);
+        self.check(text, call, &expected, Flush::Front);
+        self.check(text, call, &expected, Flush::Back);
     }
 }
 
@@ -118,7 +118,7 @@ fn whole_pages_are_flush_on_both_sides() {
     }
 }
 
-/// Each length by itself, int and bool, with every lane loaded, tested and stored: a memory of
+/// Each length by itself, in every kind, with every lane loaded, tested and stored: a memory of
 /// just so many bytes, flush on either side.
 #[test]
 fn blocks_of_every_length_are_flush_on_either_side() {
@@ -126,7 +126,8 @@ fn blocks_of_every_length_are_flush_on_either_side() {
     for lanes in BLOCK_LENGTHS {
         let ints = format!("int block[{lanes}] a; if (a < 3) a = a + 1; else a = 0 - a;");
         let bools = format!("bool block[{lanes}] b; if (b) b = !b; else b = current_mask;");
-        for (text, need) in [(ints, 4 * lanes), (bools, lanes)] {
+        let floats = format!("float block[{lanes}] a; if (a < 3.0) a = a * 2.0; else a = -a;");
+        for (text, need) in [(ints, 4 * lanes), (bools, lanes), (floats, 4 * lanes)] {
             watch.tries(format!("a memory of {need} bytes for {lanes} lanes"));
             for seed in 0..20 {
                 let memory = generate::memory_for(text.as_bytes(), &mut Random::new(SEED, seed));

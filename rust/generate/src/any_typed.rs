@@ -5,6 +5,9 @@ use crate::expression::Expression;
 use crate::random::Random;
 use crate::well_typed::BLOCK_LENGTHS;
 
+/// The comparisons.
+const COMPARISONS: [&str; 6] = ["==", "!=", "<", ">", "<=", ">="];
+
 /// How deep statements may stand in one another here.
 const DEEPEST: usize = 3;
 
@@ -41,10 +44,10 @@ impl Writer<'_> {
         self.tokens.extend(tokens);
     }
 
-    /// Appends declarations of both kinds, of length 1 and longer, mostly all or half of them.
+    /// Appends declarations of every kind, of length 1 and longer, mostly all or half of them.
     fn heading(&mut self) {
         let [one, other] = self.lengths;
-        let half = self.random.once_in(3);
+        let half = self.random.once_in(5);
         for declaration in [
             "int s ;".to_string(),
             "bool t ;".to_string(),
@@ -52,6 +55,9 @@ impl Writer<'_> {
             format!("bool block [ {one} ] m ;"),
             format!("int block [ {other} ] b ;"),
             format!("bool block [ {other} ] k ;"),
+            "float f ;".to_string(),
+            format!("float block [ {one} ] g ;"),
+            format!("float block [ {other} ] h ;"),
         ] {
             if !self.random.once_in(if half { 2 } else { 30 }) {
                 self.put(&declaration);
@@ -63,16 +69,18 @@ impl Writer<'_> {
     fn name(&mut self, kind: &str) -> &'static str {
         let names = match self.random.below(20) {
             0 => ["x", "y", "z", "u"],
-            1..=2 => ["s", "t", "b", "k"],
+            1 => ["s", "t", "b", "k"],
+            2 => ["f", "t", "g", "a"],
             _ if kind == "int" => ["s", "a", "a", "b"],
+            _ if kind == "float" => ["f", "g", "g", "h"],
             _ => ["t", "m", "m", "k"],
         };
         self.random.token(&names)
     }
 
-    /// Either kind.
+    /// A kind.
     fn kind(&mut self) -> &'static str {
-        self.random.token(&["int", "bool"])
+        self.random.token(&["int", "bool", "float"])
     }
 
     /// Appends one statement.
@@ -199,8 +207,16 @@ impl Writer<'_> {
         let (sign, operands) = match (kind, self.random.below(3)) {
             ("int", 0) => (self.random.token(&["u-", "~"]), "int"),
             ("int", _) => (self.random.token(&["+", "-", "*", "&", "|", "^"]), "int"),
+            ("float", 0) if self.random.once_in(3) => {
+                (self.random.token(&["~", "!", "&", "|", "^"]), "float")
+            }
+            ("float", 0) => ("u-", "float"),
+            ("float", _) => (self.random.token(&["+", "-", "*"]), "float"),
             (_, 0) => (self.random.token(&["!", "&", "|", "^"]), "bool"),
-            (_, 1) => (self.random.token(&["==", "!=", "<"]), "int"),
+            (_, 1) => {
+                let operands = self.random.token(&["int", "float"]);
+                (self.random.token(&COMPARISONS), operands)
+            }
             _ => (self.random.token(&["==", "!=", "&", ">="]), "bool"),
         };
         let left = self.expression(operands, fuel - 1);
@@ -215,6 +231,7 @@ impl Writer<'_> {
     fn leaf(&mut self, kind: &str) -> Expression {
         match (self.random.below(5), kind) {
             (0, "int") => Expression::leaf("3"),
+            (0, "float") => Expression::leaf(self.random.token(&["3.0", "0.0", "16777216.0"])),
             (0, _) => Expression::leaf(self.random.token(&["true", "current_mask"])),
             _ => Expression::leaf(self.name(kind)),
         }

@@ -26,7 +26,7 @@ pub fn damage(text: &mut Vec<u8>, random: &mut Random) {
 
 /// A byte that a reader may stumble over.
 fn byte(random: &mut Random) -> u8 {
-    let bytes = *b"\0\xff\r\n\t /\\;=!<>(){}[]0_a\x8012bx";
+    let bytes = *b"\0\xff\r\n\t /\\;=!<>(){}[]0_a\x8012bx..";
     match random.below(3) {
         0 => random.byte(),
         _ => *random.pick(&bytes),

@@ -18,6 +18,7 @@ mod nearly;
 mod pieces;
 mod random;
 mod shrink;
+mod singles;
 mod soup;
 mod well_typed;
 
@@ -66,7 +67,7 @@ pub enum Sort {
     Comments,
     /// Names of 30 to 33 bytes.
     Names,
-    /// Numbers round the limits.
+    /// Numbers and constants of floats round the limits.
     Numbers,
 }
 

@@ -2,6 +2,7 @@
 
 use crate::layout::{comment, layout, Style};
 use crate::random::Random;
+use crate::singles::NEAR_CONSTANTS;
 use crate::well_typed::{well_typed, Wishes};
 
 /// The ways in which a statement opens a level: what stands before and after it.
@@ -25,6 +26,9 @@ const MASKED_WAYS: [(&str, &str); 5] = [
 
 /// The ways in which an int expression opens a level.
 const INT_WAYS: [(&str, &str); 4] = [("(", ")"), ("-", ""), ("~", ""), ("(1 + ", ")")];
+
+/// The ways in which a float expression opens a level.
+const FLOAT_WAYS: [(&str, &str); 4] = [("(", ")"), ("-", ""), ("(1.0 + ", ")"), ("(2.0 * ", ")")];
 
 /// The ways in which a bool expression opens a level.
 const BOOL_WAYS: [(&str, &str); 3] = [("(", ")"), ("!", ""), ("(true & ", ")")];
@@ -59,8 +63,12 @@ pub fn nesting(random: &mut Random) -> Vec<u8> {
         0 => random.token(&[")", "else", "=", "1", "}", "block"]),
         _ => "",
     };
-    let middle = match random.below(4) {
+    let middle = match random.below(5) {
         _ if inner == 0 => format!("{leaf};"),
+        4 => {
+            let expression = wrap(format!("{leaf} 1.0"), &FLOAT_WAYS, inner, random);
+            format!("float x = {expression};")
+        }
         0 => {
             let expression = wrap(format!("{leaf} true"), &BOOL_WAYS, inner - 1, random);
             format!("if ({expression}) ; else ;")
@@ -86,7 +94,11 @@ fn masked_nesting(random: &mut Random) -> Vec<u8> {
     let levels = random.between(30, 34);
     let inner = random.below(levels);
     let length = *random.pick(&[4, 16, 32, 64, 64]);
-    let middle = match random.below(3) {
+    let middle = match random.below(4) {
+        3 => {
+            let value = wrap("2.0".into(), &FLOAT_WAYS, inner, random);
+            format!("float block[{length}] x = {value};")
+        }
         0 => format!(
             "m = {};",
             wrap("current_mask".into(), &BOOL_WAYS, inner, random)
@@ -141,7 +153,7 @@ pub fn declarations(random: &mut Random) -> Vec<u8> {
     for index in 0..count {
         let kind = match ints {
             true => "int",
-            false => random.token(&["int", "bool"]),
+            false => random.token(&["int", "bool", "float"]),
         };
         let block = one.unwrap_or_else(|| match random.below(8) {
             0 => " block[2]",
@@ -154,6 +166,7 @@ pub fn declarations(random: &mut Random) -> Vec<u8> {
         });
         let value = match (random.below(4), kind) {
             (0, "int") => " = 3",
+            (0, "float") => " = 3.0",
             (0, _) => " = true",
             _ => "",
         };
@@ -185,6 +198,9 @@ pub fn long_text(random: &mut Random) -> Vec<u8> {
         ("int zz=1", "+1", ";"),
         ("int zz=1", "*-3", ";"),
         ("int block[64] zz=1", "*-3", ";"),
+        ("float zz=1.0", "+1.0", ";"),
+        ("float block[64] zz=1.0", "*-3.0", ";"),
+        ("float zz=", "9", ".0;"),
         ("bool zz=true", "^false", ";"),
         ("bool block[32] zz=true", "^false", ";"),
         ("", "{}", ""),
@@ -270,6 +286,9 @@ fn name(random: &mut Random) -> String {
             "elseif",
             "blocks",
             "scala",
+            "floa",
+            "float_",
+            "floats",
             "If",
             "while",
             "Z",
@@ -287,6 +306,18 @@ fn name(random: &mut Random) -> String {
     });
     std::iter::once(first).chain(rest).collect()
 }
+
+/// Constants of floats that are one good token.
+const GOOD_CONSTANTS: [&str; 8] = [
+    "0.0",
+    "1.0",
+    "2.0",
+    "10.0",
+    "8388609.0",
+    "16777214.0",
+    "16777215.0",
+    "16777216.0",
+];
 
 /// Numbers that are one good token.
 const GOOD_NUMBERS: [&str; 19] = [
@@ -340,6 +371,35 @@ const LENGTHS: [&str; 14] = [
 
 /// Numbers round the limits, as values, lengths and parts of other tokens.
 pub fn numbers(random: &mut Random) -> Vec<u8> {
+    match random.below(3) {
+        0 => constants(random),
+        _ => ints(random),
+    }
+}
+
+/// Constants of floats round the limits, and what is nearly one, also where no float may stand.
+fn constants(random: &mut Random) -> Vec<u8> {
+    let mut number = || match random.below(8) {
+        0..=2 => random.token(&NEAR_CONSTANTS),
+        3 => random.token(&GOOD_NUMBERS),
+        _ => random.token(&GOOD_CONSTANTS),
+    };
+    let (one, other) = (number(), number());
+    let text = match random.below(8) {
+        0 => format!("float x = {one};"),
+        1 => format!("float x = -{one} - {other};"),
+        2 => format!("float block[{one}] v;"),
+        3 => format!("float block[{}] v = {one};", random.token(&LENGTHS)),
+        4 => format!("bool b = {one} < {other};"),
+        5 => format!("float x={one}*{other}+{one};"),
+        6 => format!("int x = {one};"),
+        _ => format!("float x; x = {one}; x = x - {other};"),
+    };
+    text.into_bytes()
+}
+
+/// Numbers of ints round the limits.
+fn ints(random: &mut Random) -> Vec<u8> {
     let mut number = || match random.below(4) {
         0 => random.token(&BAD_NUMBERS),
         _ => random.token(&GOOD_NUMBERS),

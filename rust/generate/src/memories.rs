@@ -1,6 +1,7 @@
 //! Memories and budgets for a text.
 
 use crate::random::Random;
+use crate::singles;
 use oracle::Row;
 
 /// A memory for this text: mostly as long as it needs, at times longer or shorter.
@@ -27,9 +28,9 @@ pub(crate) fn memory_of(rows: &[Row], length: usize, random: &mut Random) -> Vec
     for row in rows {
         let lanes = row.length as usize;
         let apart = apart(lanes, random);
-        let two = [value(random), value(random)];
+        let two = [value(row.kind, random), value(row.kind, random)];
         for lane in 0..lanes {
-            let size = if row.kind == 0 { 4 } else { 1 };
+            let size = row.lane_size();
             let at = row.address as usize + lane * size;
             if at + size > length {
                 break;
@@ -37,7 +38,7 @@ pub(crate) fn memory_of(rows: &[Row], length: usize, random: &mut Random) -> Vec
             let element = &mut memory[at..at + size];
             match apart.map(|apart| apart >> lane & 1 == 1) {
                 Some(apart) => put(element, two[usize::from(apart)], apart),
-                None => fill(element, random),
+                None => fill(element, row.kind, random),
             }
         }
     }
@@ -63,8 +64,8 @@ fn apart(length: usize, random: &mut Random) -> Option<u64> {
     Some(apart)
 }
 
-/// Writes a lane: this int, or a bool that is true or not.
-fn put(element: &mut [u8], value: i32, truth: bool) {
+/// Writes a lane: this word, or a bool that is true or not.
+fn put(element: &mut [u8], value: u32, truth: bool) {
     if let [byte] = element {
         *byte = match truth {
             true => [1, 2, 128, 255][value as usize % 4],
@@ -75,18 +76,26 @@ fn put(element: &mut [u8], value: i32, truth: bool) {
     element.copy_from_slice(&value.to_le_bytes());
 }
 
-/// A small int, one at the limits or any; a bool of 0, 1 or another byte.
-fn fill(element: &mut [u8], random: &mut Random) {
+/// A number of this kind; a bool of 0, 1 or another byte.
+fn fill(element: &mut [u8], kind: u32, random: &mut Random) {
     if let [truth] = element {
         let other = random.byte();
         *truth = *random.pick(&[0, 0, 0, 1, 1, 2, 128, 255, other]);
         return;
     }
-    element.copy_from_slice(&value(random).to_le_bytes());
+    element.copy_from_slice(&value(kind, random).to_le_bytes());
+}
+
+/// A word for a lane of this kind.
+fn value(kind: u32, random: &mut Random) -> u32 {
+    match kind {
+        2 => singles::pattern(random),
+        _ => int(random) as u32,
+    }
 }
 
 /// A small int, one at the limits or any.
-fn value(random: &mut Random) -> i32 {
+fn int(random: &mut Random) -> i32 {
     let edges = [i32::MIN, i32::MIN + 1, -1, 0, 1, i32::MAX - 1, i32::MAX];
     match random.below(6) {
         0 => *random.pick(&edges),

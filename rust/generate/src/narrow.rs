@@ -23,7 +23,7 @@ pub fn narrow(text: &[u8]) -> Vec<u8> {
 
 /// The bytes of one lane of a variable; a variable of length 1 is its own lane.
 pub fn lane_bytes<'m>(row: &Row, memory: &'m [u8], lane: usize) -> &'m [u8] {
-    let size = if row.kind == 0 { 4 } else { 1 };
+    let size = row.lane_size();
     let lane = if row.length == 1 { 0 } else { lane };
     let at = row.address as usize + lane * size;
     &memory[at..at + size]

@@ -1,14 +1,18 @@
 //! Well-typed programs with one change of kind, length, scope, target or order.
 
 use crate::random::Random;
+use crate::singles::NEAR_CONSTANTS;
 use crate::soup::reserved;
+
+/// The words of the kinds.
+const KINDS: [&str; 3] = ["int", "bool", "float"];
 
 /// Changes one thing in these tokens, if there is a place for it. Each way of changing gives
 /// none where it finds no place.
 pub fn change(tokens: &mut Vec<String>, random: &mut Random) {
     for _ in 0..8 {
-        let changed = match random.below(13) {
-            0 => replace(tokens, random, &["int", "bool"], &["int", "bool"]),
+        let changed = match random.below(14) {
+            0 => replace(tokens, random, &KINDS, &KINDS),
             1 => block_length(tokens, random),
             2 => without_block(tokens, random),
             3 => with_block(tokens, random),
@@ -19,6 +23,7 @@ pub fn change(tokens: &mut Vec<String>, random: &mut Random) {
             9 => without_scalar(tokens, random),
             10 => statement(tokens, random),
             11 => insert_unary(tokens, random),
+            12 => near_constant(tokens, random),
             _ => insert_statement(tokens, random),
         };
         if changed.is_some() {
@@ -72,7 +77,7 @@ fn without_block(tokens: &mut Vec<String>, random: &mut Random) -> Option<()> {
 fn with_block(tokens: &mut Vec<String>, random: &mut Random) -> Option<()> {
     let scalar = |index: usize| {
         let next = tokens.get(index + 1).map(String::as_str);
-        ["int", "bool"].contains(&tokens[index].as_str()) && next != Some("block")
+        KINDS.contains(&tokens[index].as_str()) && next != Some("block")
     };
     let index = find(tokens, random, scalar)?;
     let number = random.token(&["1", "2", "4", "8", "16", "32", "64"]);
@@ -115,16 +120,26 @@ fn operator(tokens: &mut [String], random: &mut Random) -> Option<()> {
     replace(tokens, random, &signs, &signs)
 }
 
+/// Whether a token is a constant or current_mask, and no length of a block.
+fn is_constant(tokens: &[String], index: usize) -> bool {
+    let token = tokens[index].as_str();
+    let number = token.as_bytes()[0].is_ascii_digit();
+    let block = index >= 2 && tokens[index - 2] == "block";
+    !block && (number || ["true", "false", "current_mask"].contains(&token))
+}
+
 /// A constant or current_mask in the place of a constant.
 fn constant(tokens: &mut [String], random: &mut Random) -> Option<()> {
-    let constant = |index: usize| {
-        let token = tokens[index].as_str();
-        let number = token.as_bytes()[0].is_ascii_digit();
-        let block = index >= 2 && tokens[index - 2] == "block";
-        !block && (number || ["true", "false", "current_mask"].contains(&token))
-    };
-    let index = find(tokens, random, constant)?;
-    tokens[index] = random.token(&["true", "7", "current_mask"]).into();
+    let index = find(tokens, random, |index| is_constant(tokens, index))?;
+    let others = ["true", "7", "current_mask", "7.0"];
+    tokens[index] = random.token(&others).into();
+    Some(())
+}
+
+/// What is nearly a constant of a float in the place of a constant.
+fn near_constant(tokens: &mut [String], random: &mut Random) -> Option<()> {
+    let index = find(tokens, random, |index| is_constant(tokens, index))?;
+    tokens[index] = random.token(&NEAR_CONSTANTS).into();
     Some(())
 }
 
@@ -163,7 +178,10 @@ fn insert_unary(tokens: &mut Vec<String>, random: &mut Random) -> Option<()> {
 /// A statement that may not fit where it stands.
 fn insert_statement(tokens: &mut Vec<String>, random: &mut Random) -> Option<()> {
     let to = simple(tokens, random).map_or(0, |(start, _)| start);
-    let statements: [&[&str]; 9] = [
+    let statements: [&[&str]; 12] = [
+        &["float", "new", "=", "1.0", ";"],
+        &["float", "x", ";"],
+        &["x", "=", "1.0", ";"],
         &["int", "new", "=", "1", ";"],
         &["bool", "new", "=", "true", ";"],
         &["int", "x", ";"],

@@ -16,7 +16,8 @@ impl Piece<'_> {
     }
 }
 
-/// The pieces of a text: comments, separators, words, numbers, and single other bytes.
+/// The pieces of a text: comments, separators, words, numbers, digits with a dot behind them and
+/// the digits behind that, and single other bytes.
 pub fn pieces(text: &[u8]) -> Vec<Piece<'_>> {
     let mut pieces = Vec::new();
     let mut start = 0;
@@ -24,7 +25,7 @@ pub fn pieces(text: &[u8]) -> Vec<Piece<'_>> {
         let rest = &text[start..];
         let length = match rest[0] {
             b'/' if rest.starts_with(b"//") => run(rest, |byte| byte != b'\n'),
-            b'0'..=b'9' => run(rest, |byte| byte.is_ascii_digit()),
+            b'0'..=b'9' => number(rest),
             b'_' | b'a'..=b'z' | b'A'..=b'Z' => {
                 run(rest, |byte| byte == b'_' || byte.is_ascii_alphanumeric())
             }
@@ -35,6 +36,16 @@ pub fn pieces(text: &[u8]) -> Vec<Piece<'_>> {
         start += length;
     }
     pieces
+}
+
+/// How many bytes the number at the start has.
+fn number(rest: &[u8]) -> usize {
+    let digits = |rest: &[u8]| run(rest, |byte| byte.is_ascii_digit());
+    let whole = digits(rest);
+    match rest.get(whole) {
+        Some(b'.') => whole + 1 + digits(&rest[whole + 1..]),
+        _ => whole,
+    }
 }
 
 /// How many bytes from the start satisfy the test.

@@ -8,6 +8,7 @@ pub fn shrink(case: &Case, mut fails: impl FnMut(&Case) -> bool) -> Case {
     let mut smallest = case.clone();
     loop {
         let before = smallest.clone();
+        drop_floats(&mut smallest, &mut fails);
         drop_statements(&mut smallest, &mut fails);
         drop_tests(&mut smallest, &mut fails);
         drop_pairs(&mut smallest, &mut fails);
@@ -35,6 +36,20 @@ fn without(case: &Case, start: usize, end: usize) -> Case {
     let mut shorter = case.clone();
     shorter.text.drain(start..end);
     shorter
+}
+
+/// Makes every float an int, so that what still has floats needs them.
+fn drop_floats(smallest: &mut Case, fails: &mut impl FnMut(&Case) -> bool) {
+    let ints = pieces(&smallest.text).into_iter().flat_map(|piece| {
+        let whole = piece.bytes.strip_suffix(b".0");
+        match piece.bytes {
+            b"float" => b"int",
+            other => whole.unwrap_or(other),
+        }
+    });
+    let mut candidate = smallest.clone();
+    candidate.text = ints.copied().collect();
+    take(smallest, candidate, fails);
 }
 
 /// Drops what stands between two of the places where statements begin and end.

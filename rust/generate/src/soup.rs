@@ -2,14 +2,15 @@
 
 use crate::layout::{layout, Style};
 use crate::random::Random;
+use crate::singles::NEAR_CONSTANTS;
 
 /// The reserved words: the first of the tokens.
 pub fn reserved() -> &'static [&'static str] {
-    &TOKENS[..10]
+    &TOKENS[..11]
 }
 
-/// Every reserved word and sign, with some names and numbers.
-const TOKENS: [&str; 45] = [
+/// Every reserved word and sign, with some names, numbers and constants of floats.
+const TOKENS: [&str; 50] = [
     "int",
     "bool",
     "block",
@@ -20,6 +21,7 @@ const TOKENS: [&str; 45] = [
     "current_mask",
     "true",
     "false",
+    "float",
     ";",
     "{",
     "}",
@@ -55,10 +57,14 @@ const TOKENS: [&str; 45] = [
     "64",
     "2147483647",
     "3",
+    "0.0",
+    "1.0",
+    "2.0",
+    "16777216.0",
 ];
 
 /// Starts that let some soup get further than its first token.
-const STARTS: [&str; 10] = [
+const STARTS: [&str; 13] = [
     "",
     "int x ;",
     "int x = ",
@@ -69,6 +75,9 @@ const STARTS: [&str; 10] = [
     "if ( true ) ; else",
     "while ( 1 <",
     "bool b ; if ( b ) { ",
+    "float x =",
+    "float block [ 4 ] a ; a =",
+    "while ( 1.0 <",
 ];
 
 /// A text of tokens or bytes in any order.
@@ -80,6 +89,9 @@ pub fn soup(random: &mut Random) -> Vec<u8> {
     let mut tokens: Vec<String> = start.map(String::from).collect();
     for _ in 0..random.below(30) {
         tokens.push(random.token(&TOKENS).into());
+    }
+    if random.once_in(12) {
+        tokens.push(random.token(&NEAR_CONSTANTS).into());
     }
     let style = *random.pick(&[Style::Plain, Style::Tight, Style::Wild]);
     layout(&tokens, style, random)

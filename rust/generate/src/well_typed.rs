@@ -2,6 +2,7 @@
 
 use crate::expression::Expression;
 use crate::random::Random;
+use crate::singles;
 
 /// The lengths of blocks, but for 1.
 pub const BLOCK_LENGTHS: [usize; 6] = [2, 4, 8, 16, 32, 64];
@@ -21,6 +22,8 @@ pub struct Wishes {
     pub lengths: Vec<usize>,
     /// Whether `scalar` statements may occur.
     pub scalar: bool,
+    /// Whether floats may occur.
+    pub floats: bool,
     /// Whether loops may occur that perhaps never end.
     pub endless: bool,
 }
@@ -36,6 +39,7 @@ impl Wishes {
             operators: if size == 1 { 1 } else { 3 },
             lengths: lengths(random),
             scalar: true,
+            floats: random.once_in(2),
             endless: random.once_in(3),
         }
     }
@@ -82,11 +86,31 @@ pub fn well_typed(wishes: &Wishes, random: &mut Random) -> Vec<String> {
 /// The most declarations a text may have.
 const MOST_DECLARATIONS: usize = 64;
 
-/// Int or bool.
+/// Int, bool or float.
 #[derive(Clone, Copy, Debug, PartialEq, Eq)]
 enum Kind {
     Int,
     Bool,
+    Float,
+}
+
+impl Kind {
+    /// The word that declares it.
+    fn word(self) -> &'static str {
+        match self {
+            Kind::Int => "int",
+            Kind::Bool => "bool",
+            Kind::Float => "float",
+        }
+    }
+
+    /// A constant of this small number, where the kind is one of numbers.
+    fn small(self, number: usize) -> String {
+        match self {
+            Kind::Float => format!("{number}.0"),
+            _ => number.to_string(),
+        }
+    }
 }
 
 /// A declaration of an open scope.
@@ -190,12 +214,17 @@ impl Writer<'_, '_> {
 
     /// A kind at random.
     fn kind(&mut self) -> Kind {
-        *self.random.pick(&[Kind::Int, Kind::Int, Kind::Bool])
+        let ints = [Kind::Int, Kind::Int, Kind::Bool];
+        let floats = [Kind::Float, Kind::Float, Kind::Int, Kind::Bool];
+        match self.wishes.floats {
+            true => *self.random.pick(&floats),
+            false => *self.random.pick(&ints),
+        }
     }
 
     /// Appends a type's kind, and its length where it is not 1 or once in a while.
     fn put_type(&mut self, kind: Kind, length: usize) {
-        self.put(if kind == Kind::Int { "int" } else { "bool" });
+        self.put(kind.word());
         if length != 1 || self.random.once_in(6) {
             self.put(&format!("block [ {length} ]"));
         }
@@ -235,7 +264,7 @@ impl Writer<'_, '_> {
         let value = self.expression(kind, value_length, context, self.wishes.operators);
         let fits = value_length > 1 || context == 1;
         if fits && self.random.once_in(2) {
-            self.put(if kind == Kind::Int { "int" } else { "bool" });
+            self.put(kind.word());
             self.declare(kind, value_length, false);
         } else {
             let length = match (value_length, context) {
@@ -253,7 +282,7 @@ impl Writer<'_, '_> {
 
     /// Appends a type that always states its length, since the value might state another.
     fn put_type_of_value(&mut self, kind: Kind, length: usize) {
-        self.put(if kind == Kind::Int { "int" } else { "bool" });
+        self.put(kind.word());
         self.put(&format!("block [ {length} ]"));
     }
 
@@ -330,45 +359,73 @@ impl Writer<'_, '_> {
     }
 
     /// Appends a counter with a count of its own in each lane, and its loop, which may set all
-    /// lanes of the counter anew for as many times as `refills` counts.
+    /// lanes of the counter anew for as many times as `refills` counts. It is an int or a float.
     fn lane_counter(&mut self, refills: Option<String>, context: usize, depth: usize) {
-        let reach = self.reach(Kind::Int, context);
+        let kind = match self.wishes.floats && self.random.once_in(2) {
+            true => Kind::Float,
+            false => Kind::Int,
+        };
+        let reach = self.reach(kind, context);
         let longest = *reach.iter().max().expect("length 1 can be reached");
-        let start = self.count(longest, context);
+        let start = self.count(kind, longest, context);
         let length = match (longest, context) {
             (1, 1) => self.declared_length(1),
             _ => longest.max(context),
         };
-        self.put_type_of_value(Kind::Int, length);
+        self.put_type_of_value(kind, length);
         let kept = !(self.wishes.endless && self.random.once_in(3));
-        let counter = self.declare(Kind::Int, length, kept);
+        let counter = self.declare(kind, length, kept);
         self.put("=");
         self.put_expression(&start);
-        self.put("; while (");
-        let test = self.counter_test(&counter);
+        self.put(";");
+        if kind == Kind::Float {
+            self.part_lanes(&counter, length, context);
+        }
+        self.put("while (");
+        let test = self.counter_test(&counter, kind);
         self.put_expression(&test);
         self.put(") {");
         for _ in 0..self.random.below(3) {
             self.statement(length.max(context), depth + 1);
         }
-        self.put(&format!("{counter} = {counter} - 1 ;"));
+        self.put(&format!("{counter} = {counter} - {} ;", kind.small(1)));
         if let Some(refills) = refills {
-            self.refill(&counter, length, &refills);
+            self.refill(&counter, kind, length, &refills);
         }
         self.put("}");
     }
 
-    /// An expression of this length with a small count in each lane.
-    fn count(&mut self, length: usize, context: usize) -> Expression {
+    /// An expression of at most this length with a small count in each lane; floats have the same
+    /// in each.
+    fn count(&mut self, kind: Kind, length: usize, context: usize) -> Expression {
+        if kind == Kind::Float {
+            let count = self.random.below(4);
+            return Expression::leaf(kind.small(count));
+        }
         let count = self.expression(Kind::Int, length, context, 1);
         let most = Expression::leaf(self.random.between(1, 3).to_string());
         Expression::binary("&", count, most)
     }
 
+    /// Appends a choice that gives some lanes of a float counter another small count.
+    fn part_lanes(&mut self, counter: &str, length: usize, context: usize) {
+        if !self.reach(Kind::Bool, context).contains(&length) {
+            return;
+        }
+        let condition = self.expression(Kind::Bool, length, context, 1);
+        self.put("if (");
+        self.put_expression(&condition);
+        let count = self.random.below(4);
+        self.put(&format!(
+            ") {counter} = {} ; else ;",
+            Kind::Float.small(count)
+        ));
+    }
+
     /// Appends a `scalar` statement that changes lanes of the counter that have left its loop.
-    fn refill(&mut self, counter: &str, length: usize, refills: &str) {
-        let reach = self.reach(Kind::Int, 1).contains(&length);
-        let count = self.count(if reach { length } else { 1 }, 1);
+    fn refill(&mut self, counter: &str, kind: Kind, length: usize, refills: &str) {
+        let reach = self.reach(kind, 1).contains(&length);
+        let count = self.count(kind, if reach { length } else { 1 }, 1);
         self.put(&format!("scalar if ( {refills} > 0 ) {{ {counter} ="));
         self.put_expression(&count);
         self.put(&format!("; {refills} = {refills} - 1 ; }} else ;"));
@@ -387,7 +444,7 @@ impl Writer<'_, '_> {
     fn scalar_counter(&mut self, context: usize, depth: usize) {
         let counter = self.scalar_variable();
         self.put("while (");
-        let test = self.counter_test(&counter);
+        let test = self.counter_test(&counter, Kind::Int);
         self.put_expression(&test);
         self.put(") {");
         for _ in 0..self.random.below(3) {
@@ -397,15 +454,15 @@ impl Writer<'_, '_> {
     }
 
     /// A test that holds while the counter, which starts at 0 or above, is not at 0.
-    fn counter_test(&mut self, counter: &str) -> Expression {
+    fn counter_test(&mut self, counter: &str, kind: Kind) -> Expression {
         let name = || Expression::leaf(counter);
-        let number = Expression::leaf;
+        let number = |number| Expression::leaf(kind.small(number));
         let test = match self.random.below(5) {
-            0 => Expression::binary("<", number("0"), name()),
-            1 => Expression::binary(">", name(), number("0")),
-            2 => Expression::binary(">=", name(), number("1")),
-            3 => Expression::binary("!=", number("0"), name()),
-            _ => Expression::unary("!", Expression::binary("==", name(), number("0"))),
+            0 => Expression::binary("<", number(0), name()),
+            1 => Expression::binary(">", name(), number(0)),
+            2 => Expression::binary(">=", name(), number(1)),
+            3 => Expression::binary("!=", number(0), name()),
+            _ => Expression::unary("!", Expression::binary("==", name(), number(0))),
         };
         match self.random.below(6) {
             0 => Expression::binary("&", test, Expression::leaf("current_mask")),
@@ -438,10 +495,11 @@ impl Writer<'_, '_> {
             }
         }
         let fuel = fuel.saturating_sub(1);
-        if kind == Kind::Int {
-            return self.int_operator(length, context, fuel);
+        match kind {
+            Kind::Int => self.int_operator(length, context, fuel),
+            Kind::Bool => self.bool_operator(length, context, fuel),
+            Kind::Float => self.float_operator(length, context, fuel),
         }
-        self.bool_operator(length, context, fuel)
     }
 
     /// An int operator with its operands.
@@ -456,13 +514,31 @@ impl Writer<'_, '_> {
         }
     }
 
-    /// A bool operator with its operands; only where ints cannot have the length are all bools.
+    /// A float operator with its operands.
+    fn float_operator(&mut self, length: usize, context: usize, fuel: usize) -> Expression {
+        match self.random.token(&["+", "-", "*", "+", "-", "u-"]) {
+            "u-" => Expression::unary("-", self.expression(Kind::Float, length, context, fuel)),
+            sign => self.binary(sign, Kind::Float, length, context, fuel),
+        }
+    }
+
+    /// The kinds of numbers that can have this length here.
+    fn numbers(&self, length: usize, context: usize) -> Vec<Kind> {
+        let mut kinds = vec![Kind::Int];
+        kinds.extend(self.wishes.floats.then_some(Kind::Float));
+        kinds.retain(|kind| self.reach(*kind, context).contains(&length));
+        kinds
+    }
+
+    /// A bool operator with its operands; only where no numbers can have the length are all bools.
     fn bool_operator(&mut self, length: usize, context: usize, fuel: usize) -> Expression {
-        let ints = self.reach(Kind::Int, context).contains(&length);
-        let only_ints = ints && self.leaf(Kind::Bool, length, context).is_none();
-        if ints && (only_ints || self.random.once_in(2)) {
+        let numbers = self.numbers(length, context);
+        let any = !numbers.is_empty();
+        let only_numbers = any && self.leaf(Kind::Bool, length, context).is_none();
+        if any && (only_numbers || self.random.once_in(2)) {
+            let kind = *self.random.pick(&numbers);
             let sign = self.random.token(&["==", "!=", "<", ">", "<=", ">="]);
-            return self.binary(sign, Kind::Int, length, context, fuel);
+            return self.binary(sign, kind, length, context, fuel);
         }
         let sign = self.random.token(&["==", "!=", "&", "|", "^", "!"]);
         match sign {
@@ -508,8 +584,10 @@ impl Writer<'_, '_> {
 
     /// A constant of this kind.
     fn constant(&mut self, kind: Kind) -> String {
-        if kind == Kind::Bool {
-            return self.random.token(&["true", "false"]).into();
+        match kind {
+            Kind::Bool => return self.random.token(&["true", "false"]).into(),
+            Kind::Float => return singles::constant(self.random),
+            Kind::Int => {}
         }
         let edges = [2147483647, 2147483646, 1073741824, 65536, 65535, 256, 255];
         match self.random.below(5) {

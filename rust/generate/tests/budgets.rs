@@ -21,7 +21,7 @@ fn token_at<'t>(read: &[Piece<'t>], place: u32) -> &'t [u8] {
 fn targets<'r>(read: &[Piece<'_>], rows: &'r [Row], place: u32) -> Vec<&'r Row> {
     match token_at(read, place) {
         b";" | b"if" | b"while" => Vec::new(),
-        b"int" | b"bool" => rows
+        b"int" | b"bool" | b"float" => rows
             .iter()
             .filter(|row| row.place > place)
             .take(1)
@@ -37,8 +37,9 @@ fn targets<'r>(read: &[Piece<'_>], rows: &'r [Row], place: u32) -> Vec<&'r Row> 
 fn check_step(before: &[u8], after: &[u8], targets: &[&Row]) {
     for at in 0..before.len() {
         let written = targets.iter().any(|row| {
-            let size = row.length * if row.kind == 0 { 4 } else { 1 };
-            (row.address..row.address + size).contains(&(at as u32))
+            let size = row.length as usize * row.lane_size();
+            let address = row.address as usize;
+            (address..address + size).contains(&at)
         });
         assert!(before[at] == after[at] || written);
     }

@@ -5,7 +5,7 @@ use oracle::{judge, run, variables, Answer, Code, Program, Row};
 
 /// The size of a variable in bytes.
 fn size(row: &Row) -> u32 {
-    row.length * if row.kind == 0 { 4 } else { 1 }
+    row.length * row.lane_size() as u32
 }
 
 /// Runs the case and checks whatever must hold of any run.

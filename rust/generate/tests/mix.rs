@@ -1,7 +1,24 @@
 //! The generators give a healthy mix: every code occurs, and each sort meets its limit.
 
-use generate::{case, mixed, pieces, Case, Piece, Random, Sort, BLOCK_LENGTHS};
+use generate::{case, lane_bytes, mixed, pieces, Case, Piece, Random, Sort, BLOCK_LENGTHS};
 use oracle::{judge, run, variables, Program, Row, Watched};
+
+/// The number of the kind of floats.
+const FLOAT: u32 = 2;
+
+/// What is refused as a constant that is malformed or larger.
+const NEAR: [&str; 10] = [
+    "1.",
+    "1.00",
+    "1.5",
+    "0.5",
+    "01.0",
+    "00.0",
+    "16777217.0",
+    "2147483648.0",
+    "4294967297.0",
+    "99999999999.0",
+];
 
 /// How often each code occurs over these cases of one sort.
 fn codes(sort: Sort, cases: u64) -> [usize; 14] {
@@ -66,7 +83,7 @@ fn each_sort_meets_its_limit() {
     assert!(comments[0] > 80 && comments[2] > 20, "{comments:?}");
     let nearly = codes(Sort::NearlyTyped, 2000);
     assert!((5..11).all(|code| nearly[code] > 10), "{nearly:?}");
-    let any = codes(Sort::AnyTyped, 1000);
+    let any = codes(Sort::AnyTyped, 2000);
     assert!((5..11).all(|code| any[code] > 10) && any[0] > 50, "{any:?}");
 }
 
@@ -77,8 +94,8 @@ fn every_way_and_every_token_occurs() {
         text.extend(generate::text(Sort::WellTyped, &mut Random::new(3, index)));
     }
     for token in
-        "int bool block if else while scalar current_mask true false ; { } ( ) [ ] = == != \
-        < > <= >= + - * & | ^ ~ ! 1 2 4 8 16 32 64"
+        "int bool float block if else while scalar current_mask true false ; { } ( ) [ ] = == != \
+        < > <= >= + - * & | ^ ~ ! 1 2 4 8 16 32 64 0.0 1.0 2.0 3.0 16777216.0"
             .split_whitespace()
     {
         let found = text
@@ -111,6 +128,143 @@ fn a_third_of_the_accepted_texts_has_long_blocks() {
     let percent = 100 * sum(1) / (sum(0) + sum(1));
     println!("{percent} %");
     assert!((30..=40).contains(&percent), "{percent} %");
+}
+
+/// Whether an accepted text declares a float.
+fn has_floats(text: &[u8]) -> bool {
+    variables(text).rows.iter().any(|row| row.kind == FLOAT)
+}
+
+#[test]
+fn nearly_half_of_the_accepted_texts_has_floats() {
+    let mut counts = [[0; 2]; Sort::ALL.len()];
+    for index in 0..6000 {
+        let (sort, case) = mixed(7, index);
+        if judge(&case.text).code == 0 {
+            let row = Sort::ALL.iter().position(|(known, _)| *known == sort);
+            counts[row.unwrap()][usize::from(has_floats(&case.text))] += 1;
+        }
+    }
+    println!("{:>14} accepted floats", "");
+    for ((_, name), [without, with]) in Sort::ALL.iter().zip(&counts) {
+        println!("{name:>14} {:>8} {with:>6}", without + with);
+    }
+    let sum = |which: usize| counts.iter().map(|row| row[which]).sum::<usize>();
+    let percent = 100 * sum(1) / (sum(0) + sum(1));
+    println!("{percent} %");
+    assert!((40..=55).contains(&percent), "{percent} %");
+}
+
+/// The text with every float as another kind, and every constant of one made by this.
+fn without_floats(text: &[u8], kind: &[u8], constant: impl Fn(&[u8]) -> Vec<u8>) -> Vec<u8> {
+    let others = pieces(text).into_iter().map(|piece| match piece.bytes {
+        b"float" => kind.to_vec(),
+        word => word.strip_suffix(b".0").map_or(word.to_vec(), &constant),
+    });
+    others.collect::<Vec<_>>().concat()
+}
+
+/// Whether a text that is refused with 8 is so because of its floats: in ints or in bools it is not.
+fn is_of_floats(text: &[u8]) -> bool {
+    let ints = without_floats(text, b"int", |whole| whole.to_vec());
+    let bools = without_floats(text, b"bool", |_| b"true".to_vec());
+    judge(&ints).code != 8 || judge(&bools).code != 8
+}
+
+#[test]
+fn floats_are_refused_in_every_way() {
+    let mut constants = [0; NEAR.len()];
+    let mut kinds = std::collections::BTreeMap::new();
+    let sorts = [Sort::NearlyTyped, Sort::AnyTyped, Sort::Numbers];
+    for index in 0..15_000 {
+        let sort = sorts[index as usize % sorts.len()];
+        let text = generate::text(sort, &mut Random::new(7, index));
+        let answer = judge(&text);
+        let from = &text[(answer.place as usize).min(text.len())..];
+        match answer.code {
+            2 => {
+                let digits = pieces(from)[0].bytes;
+                for (count, near) in constants.iter_mut().zip(NEAR) {
+                    *count += usize::from(digits == near.as_bytes());
+                }
+            }
+            8 if is_of_floats(&text) => {
+                let sign: &[u8] = match pieces(from)[0].bytes {
+                    b"=" | b"!" | b"<" | b">" if from.get(1) == Some(&b'=') => &from[..2],
+                    one => one,
+                };
+                let sign = String::from_utf8_lossy(sign).into_owned();
+                *kinds.entry(sign).or_insert(0) += 1;
+            }
+            _ => {}
+        }
+    }
+    println!("{constants:?} {kinds:?}");
+    assert!(constants.iter().all(|count| *count >= 3), "{constants:?}");
+    for sign in "= == != < > <= >= + - * & | ^ ~ ! if while".split(' ') {
+        let count = kinds.get(sign).copied().unwrap_or(0);
+        assert!(count >= 3, "8 at {sign} occurs {count} times");
+    }
+}
+
+/// What is said of a float's pattern, sign aside.
+fn class(pattern: u32) -> usize {
+    match pattern & 0x7fff_ffff {
+        0 => 0,
+        1..=0x7f_ffff => 1,
+        0x7f80_0000 => 2,
+        0x7fc0_0000 => 3,
+        0x7f80_0001..=0x7fbf_ffff => 4,
+        0x7fc0_0001.. => 5,
+        _ => 6,
+    }
+}
+
+/// The patterns in a float's lanes.
+fn patterns<'m>(row: &'m Row, memory: &'m [u8]) -> impl Iterator<Item = u32> + 'm {
+    let lanes = (0..row.length as usize).map(move |lane| lane_bytes(row, memory, lane));
+    lanes.map(|bytes| u32::from_le_bytes(bytes.try_into().unwrap()))
+}
+
+/// Zeros, subnormals, infinities, the stored not-a-number, signalling and other quiet ones, and
+/// other numbers, each with both signs: before a run, where it changed a lane, and where it left
+/// one of a block in which it changed another.
+#[test]
+fn patterns_of_every_class_are_read_written_and_left() {
+    let mut counts = [[[0; 7]; 2]; 3];
+    for index in 0..4000 {
+        let case = case(Sort::WellTyped, &mut Random::new(9, index));
+        let mut after = case.memory.clone();
+        if ![0, 13].contains(&run(&case.text, &mut after, case.budget).code) {
+            continue;
+        }
+        let rows = variables(&case.text).rows;
+        for row in rows.iter().filter(|row| row.kind == FLOAT) {
+            let (one, other) = (patterns(row, &case.memory), patterns(row, &after));
+            let lanes: Vec<_> = one.zip(other).collect();
+            let written = lanes.iter().any(|(before, after)| before != after);
+            for (before, after) in lanes {
+                let sign = |pattern: u32| (pattern >> 31) as usize;
+                counts[0][sign(before)][class(before)] += 1;
+                if before != after {
+                    counts[1][sign(after)][class(after)] += 1;
+                } else if written {
+                    counts[2][sign(after)][class(after)] += 1;
+                }
+            }
+        }
+    }
+    println!("{counts:?}");
+    let [read, changed, left] = counts;
+    assert!(read.iter().flatten().all(|count| *count >= 100));
+    assert!(left.iter().flatten().all(|count| *count >= 5));
+    // A run stores one not-a-number, and no other.
+    assert!(changed[0][..4].iter().all(|count| *count >= 20));
+    assert!(changed[1][..3].iter().all(|count| *count >= 5));
+    assert_eq!(
+        (&changed[0][4..6], &changed[1][3..6]),
+        (&[0; 2][..], &[0; 3][..])
+    );
 }
 
 #[test]

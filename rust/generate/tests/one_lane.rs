@@ -44,6 +44,7 @@ fn one_lane_of_a_run_is_the_run_of_that_lane() {
     let mut checked = 0;
     let mut long = 0;
     let mut fewer = 0;
+    let mut floats = 0;
     for index in 0..1500 {
         let (text, length, memory) = program(index);
         let mut left = memory.clone();
@@ -56,12 +57,13 @@ fn one_lane_of_a_run_is_the_run_of_that_lane() {
         }
         checked += 1;
         long += usize::from(length > 16);
+        floats += usize::from(variables(&text).rows.iter().any(|row| row.kind == 2));
         let mut single = narrow_memory(&text, &memory, 0, 0);
         fewer += usize::from(run(&narrow(&text), &mut single, BUDGET).steps < answer.steps);
     }
     assert!(
-        checked > 500 && long > 150 && fewer > 100,
-        "{checked} runs, {long} of long blocks, {fewer} with fewer steps"
+        checked > 500 && long > 150 && fewer > 100 && floats > 200,
+        "{checked} runs, {long} of long blocks, {fewer} with fewer steps, {floats} with floats"
     );
 }
 

@@ -43,3 +43,16 @@ fn a_failing_case_becomes_small() {
         assert!(small.text.len() <= longest, "{sought}: {text}");
     }
 }
+
+/// A case that fails without floats too is shown in ints.
+#[test]
+fn floats_that_are_not_needed_become_ints() {
+    let case = Case {
+        text: b"float block[2] a; float block[4] b; b = b * 2.0 + a;".to_vec(),
+        memory: vec![0; 64],
+        budget: 100,
+    };
+    let small = shrink(&case, |case| code(case) == 9);
+    let text = String::from_utf8(small.text).unwrap();
+    assert!(!text.contains("float") && !text.contains('.'), "{text}");
+}

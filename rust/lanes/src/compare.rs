@@ -4,8 +4,9 @@ use crate::arguments::{Comparison, Format};
 use crate::blocks::Recorded;
 use crate::escape;
 use crate::json::Object;
+use crate::listing;
 use crate::outcome::{Outcome, Streams};
-use crate::routine::{Routine, Variable};
+use crate::routine::{Kind, Routine, Variable};
 use crate::status::{Failure, Status};
 use crate::steps::Steps;
 use crate::terminal;
@@ -154,8 +155,12 @@ impl Comparing<'_> {
         let (place, here, collector) = match variable {
             Some(variable) => (
                 lane_name(variable, difference.lane),
-                shown(&here[bytes.clone()], &collector[bytes.clone()]),
-                shown(&collector[bytes.clone()], &here[bytes]),
+                shown(
+                    variable.kind,
+                    &here[bytes.clone()],
+                    &collector[bytes.clone()],
+                ),
+                shown(variable.kind, &collector[bytes.clone()], &here[bytes]),
             ),
             None => (
                 format!("byte {}, which belongs to no variable", bytes.start),
@@ -181,11 +186,13 @@ impl Comparing<'_> {
     ) -> String {
         let object = Object::new().with("block", block);
         let object = match difference.variable {
-            Some(index) => object
-                .with_text("name", &self.routine.variables[index].name)
-                .with("lane", difference.lane)
-                .with("here", values::json(here))
-                .with("collector", values::json(collector)),
+            Some(index) => {
+                let variable = &self.routine.variables[index];
+                let object = object
+                    .with_text("name", &variable.name)
+                    .with("lane", difference.lane);
+                with_values(object, variable.kind, [here, collector])
+            }
             None => object.with("here", here[0]).with("collector", collector[0]),
         };
         let object = object.with("address", difference.bytes.start);
@@ -275,11 +282,28 @@ fn lane_name(variable: &Variable, lane: usize) -> String {
     }
 }
 
-/// A value, with its byte where both values read alike.
-fn shown(bytes: &[u8], other: &[u8]) -> String {
-    match values::shown(bytes) {
-        value if value == values::shown(other) => format!("{value} (byte {:02x})", bytes[0]),
-        value => value,
+/// An object with both values, and their bytes where they read alike.
+fn with_values(object: Object, kind: Kind, [here, collector]: [&[u8]; 2]) -> Object {
+    let values = [here, collector].map(|bytes| values::json(kind, bytes));
+    let object = object.with("here", &values[0]);
+    let object = object.with("collector", &values[1]);
+    if values[0] != values[1] {
+        return object;
+    }
+    object
+        .with_text("here_bytes", &listing::hex(here))
+        .with_text("collector_bytes", &listing::hex(collector))
+}
+
+/// A value, with its bytes where both values read alike.
+fn shown(kind: Kind, bytes: &[u8], other: &[u8]) -> String {
+    let value = values::shown(kind, bytes);
+    if value != values::shown(kind, other) {
+        return value;
+    }
+    match bytes {
+        [byte] => format!("{value} (byte {byte:02x})"),
+        bytes => format!("{value} (bytes {})", listing::hex(bytes)),
     }
 }
 

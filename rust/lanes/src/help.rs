@@ -44,8 +44,10 @@ arguments:
 
 samples, put into the memory by name:
   --set NAME=V,V..  values for the lanes of NAME; one value fills all lanes.
-                    An int is decimal, a bool is 0, 1, false or true. A name
-                    that is declared twice is told apart by its place: s@3:14
+                    An int is decimal, a bool is 0, 1, false or true, a float
+                    is a decimal such as -0.5 or 1e-3, NaN, inf or -inf. A
+                    name that is declared twice is told apart by its place:
+                    s@3:14
   --csv FILE        a head of names, then a row a lane; or a head such as
                     s[0],s[1] and one row. An empty cell sets nothing, a
                     column whose name begins with # is passed over
@@ -74,8 +76,9 @@ A value may also follow its option behind `=`: --budget=5.
 JSON: every outcome has code, place, need, steps and message; hints where
 there are any; line, column and end where the place is shown; variables (name,
 kind, length, address, place, and after a run values) of an accepted text;
-memory in hex after a run. A step has step, place, end, line, column, mask,
-writes (name, lane, address, before, after), and test at a condition.
+memory in hex after a run. NaN, inf and -inf, which JSON does not have, are
+texts. A step has step, place, end, line, column, mask, writes (name, lane,
+address, before, after), and test at a condition.
 
 A refusal is told on standard error, results go to standard output. A reader
 of the output that goes away is no failure.

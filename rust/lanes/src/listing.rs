@@ -59,7 +59,7 @@ fn lines(variable: &Variable, memory: &[u8], room: usize) -> Vec<String> {
     if variable.length <= values::COUNTED {
         return vec![values::joined(variable, memory, " ")];
     }
-    let values: Vec<String> = values::lanes(variable, memory).map(values::shown).collect();
+    let values = values::shown_lanes(variable, memory);
     let width = values.iter().map(String::len).max().unwrap_or(0);
     let mut lanes = values::COUNTED;
     while lanes > 1 && NUMBER + lanes * (width + 1) > room {

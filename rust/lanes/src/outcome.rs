@@ -204,7 +204,8 @@ pub fn variable_json(variable: &Variable, memory: Option<&[u8]>) -> String {
     let object = match memory {
         Some(memory) => {
             let lanes = values::lanes(variable, memory);
-            object.with("values", json::list(lanes.map(values::json)))
+            let lanes = lanes.map(|bytes| values::json(variable.kind, bytes));
+            object.with("values", json::list(lanes))
         }
         None => object,
     };

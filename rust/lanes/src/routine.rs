@@ -11,20 +11,22 @@ use std::path::Path;
 /// The most bytes of a text that can be accepted.
 pub const LONGEST_TEXT: usize = 4096;
 
-/// The two kinds of variables.
+/// The kinds of variables.
 #[derive(Clone, Copy, Debug, PartialEq, Eq)]
 pub enum Kind {
     /// 4 bytes a lane.
     Int,
     /// 1 byte a lane.
     Bool,
+    /// 4 bytes a lane.
+    Float,
 }
 
 impl Kind {
     /// The size of one lane in bytes.
     pub fn size(self) -> usize {
         match self {
-            Kind::Int => 4,
+            Kind::Int | Kind::Float => 4,
             Kind::Bool => 1,
         }
     }
@@ -35,6 +37,7 @@ impl std::fmt::Display for Kind {
         f.write_str(match self {
             Kind::Int => "int",
             Kind::Bool => "bool",
+            Kind::Float => "float",
         })
     }
 }
@@ -76,7 +79,7 @@ impl Variable {
 pub fn described(kind: Kind, length: usize) -> String {
     let article = match kind {
         Kind::Int => "an",
-        Kind::Bool => "a",
+        Kind::Bool | Kind::Float => "a",
     };
     match length {
         1 => format!("{article} {kind} of one lane"),
@@ -168,6 +171,7 @@ fn kind(kind: ruihmento::Kind) -> Option<Kind> {
     match kind {
         ruihmento::Kind::Int => Some(Kind::Int),
         ruihmento::Kind::Bool => Some(Kind::Bool),
+        ruihmento::Kind::Float => Some(Kind::Float),
         _ => None,
     }
 }

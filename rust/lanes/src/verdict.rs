@@ -1,6 +1,7 @@
 //! An answer in words, for the place where it stands.
 
 use crate::source::Source;
+use crate::syntax::tokens;
 use crate::values::counted;
 use ruihmento::{Answer, Refusal};
 
@@ -40,10 +41,15 @@ pub fn sentence(source: &Source, answer: Answer, memory: usize) -> String {
 
 /// Which of the reasons for code 2 it is.
 fn bad_token(source: &Source, place: usize) -> &'static str {
-    match source.text.get(place..) {
-        Some([b'0', b'0'..=b'9', ..]) => "This number starts with a spare zero.",
-        Some([b'0'..=b'9', ..]) => "This number is above 2147483647.",
-        Some([b'_' | b'a'..=b'z' | b'A'..=b'Z', ..]) => "This name is too long.",
+    let token = &source.text[tokens::span_at(&source.text, place)];
+    match token {
+        [b'0', b'0'..=b'9', ..] => "This number starts with a spare zero.",
+        [b'0'..=b'9', .., b'.', b'0'] => "This float is above 16777216.0.",
+        [b'0'..=b'9', ..] if token.contains(&b'.') => {
+            "A float is written as a whole number followed by `.0`."
+        }
+        [b'0'..=b'9', ..] => "This number is above 2147483647.",
+        [b'_' | b'a'..=b'z' | b'A'..=b'Z', ..] => "This name is too long.",
         _ => "This character is outside the text rules.",
     }
 }

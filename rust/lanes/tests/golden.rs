@@ -190,6 +190,40 @@ fn blocks_of_64_lanes() {
     check(compare, 1, "card.compare");
 }
 
+/// Amplitudes as floats: decimals that read back, NaN and infinities in and out.
+#[test]
+fn levels_in_floats() {
+    check("judge levels.txt", 0, "levels.judge");
+    check("judge levels.txt --json", 0, "levels.judge.json");
+    check("template levels.txt --rows", 0, "levels.template-rows");
+    let samples = "levels.txt --csv levels.csv --set offset=0.75";
+    check(&format!("run {samples}"), 0, "levels.run");
+    check(&format!("run {samples} --json"), 0, "levels.run.json");
+    check(&format!("run {samples} --csv-out -"), 0, "levels.run.csv");
+    check(&format!("trace {samples}"), 0, "levels.trace");
+    check(&format!("trace {samples} --json"), 0, "levels.trace.json");
+    let beside = format!("trace {samples} --lane 1 --watch level --from 5 --width 120");
+    check(&beside, 0, "levels.trace-lane-1");
+    let blocks = "run levels.txt --blocks levels-before.bin";
+    check(blocks, 0, "levels.blocks");
+    check(&format!("{blocks} --json"), 0, "levels.blocks.json");
+    let compare = "compare levels.txt levels-before.bin";
+    check(
+        &format!("{compare} levels-after.bin"),
+        0,
+        "levels.compare-same",
+    );
+    check(&format!("{compare} levels-wrong.bin"), 1, "levels.compare");
+    check(
+        &format!("{compare} levels-wrong.bin --json"),
+        1,
+        "levels.compare.json",
+    );
+    check("run levels.txt --set level=1,5", 65, "levels.wrong-set");
+    check("run levels.txt --set level=1e39", 65, "levels.past-set");
+    check("run levels.txt --set ok=0.5", 65, "levels.bool-set");
+}
+
 /// However wide the values are, no line is wider than there is room for.
 #[test]
 fn lines_of_64_lanes_keep_the_width() {

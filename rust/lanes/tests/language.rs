@@ -144,7 +144,9 @@ impl Example {
         let (_, rest) = shown.split_once(&from).expect("the variable is listed");
         let (_, rest) = rest.split_once("\"values\":[").expect("it has values");
         let (values, _) = rest.split_once(']').expect("the values end");
-        values.replace("true", "1").replace("false", "0")
+        let values = values.replace("true", "1").replace("false", "0");
+        // What is no number in JSON is a text.
+        values.replace('"', "")
     }
 
     /// Checks what one comment says; gives the code that it names.

@@ -178,6 +178,30 @@ on true
     assert_eq!(report, expected);
 }
 
+/// Floats are texts of the page, so that it shows them as the tables do.
+#[test]
+fn floats_are_shown_as_in_the_tables() {
+    let samples = ["--csv", "levels.csv", "--set", "offset=0.75"];
+    let page = page("levels.page", &[&["levels.txt"], &samples[..]].concat());
+    let data = "\"kind\":\"float\",\"values\":[\"0.1\",\"NaN\",\"-inf\",\"1e-45\"]";
+    assert!(page.contains(data), "{page}");
+    let script = format!("{TELL} slide(6); tell();");
+    let report = match report("levels", &page, &script) {
+        Some(report) => report,
+        None => return,
+    };
+    let expected = "\
+step 6 at 4:3
+marked: level = (level - offset) * 2.0;
+mask: on, on, on,  (off)
+ok: 1, 1, 1, 0 (off)
+level: -1.3 (written changed), NaN (written), -inf (written), 1e-45 (off)
+offset: 0.75, , , 
+top: 100.0, 100.0, 100.0, 100.0 (off)
+";
+    assert_eq!(report, expected);
+}
+
 /// A card's 64 samples, of which those from lane 48 on arrived.
 fn card(name: &str) -> String {
     let ok = [&["0"; 48][..], &["1"; 16]].concat().join(",");

@@ -236,6 +236,31 @@ fn results_can_be_given_again_as_samples() {
 }
 
 #[test]
+fn floats_can_be_given_again_as_samples() {
+    let text = file(
+        "floats.txt",
+        b"float block[4] v; bool up; if (up) v = v * v; else ;",
+    );
+    let out = file("floats.csv", b"");
+    let first = [
+        "run",
+        &text,
+        "--set",
+        "v=0.1,-inf,nan,-0",
+        "--csv-out",
+        &out,
+    ];
+    assert_eq!(lanes(&first).status.code(), Some(0));
+    let head = "v[0],v[1],v[2],v[3],up";
+    let kept = format!("{head}\n0.1,-inf,NaN,-0.0,0\n");
+    assert_eq!(std::fs::read_to_string(&out).unwrap(), kept);
+    let again = ["run", &text, "--csv", &out, "--set", "up=1", "--csv-out=-"];
+    let (_, shown, _) = all(lanes(&again));
+    let squares = format!("{head}\n0.010000001,inf,NaN,0.0,1\n");
+    assert!(shown.ends_with(&squares), "{shown}");
+}
+
+#[test]
 fn help_names_every_command_option_and_status() {
     let help = lanes(&["--help"]);
     assert_eq!(help.status.code(), Some(0));

@@ -2,7 +2,8 @@
 //! document 02 that are named, and from them alone ([`run_each`] from the sentence that it quotes).
 //!
 //! A text passes one module after another: `tokens`, `reading` into a `tree`, `typing` into a
-//! `program` with its addresses from `memory`, then `running` on `lanes`.
+//! `program` with its addresses from `memory`, then `running` on `lanes`, of which those of floats
+//! are `singles`.
 //! Comments quote document 01 under the heading they name, and document 02 by its requests.
 #![forbid(unsafe_code)]
 #![warn(missing_docs)]
@@ -13,6 +14,7 @@ mod memory;
 mod program;
 mod reading;
 mod running;
+mod singles;
 mod tokens;
 mod tree;
 mod typing;

@@ -2,16 +2,17 @@
 
 use crate::lanes::{Lanes, Length, Mask};
 use crate::program::Variable;
+use crate::singles;
 use crate::tree::Kind;
 use std::ops::Range;
 
-/// Memory: "An int is 4 bytes".
-const INT_SIZE: usize = 4;
+/// Memory: "An int is 4 bytes"; document 02, R-2: "`float`, 4 bytes".
+const NUMBER_SIZE: usize = 4;
 
 /// Memory: "An int is 4 bytes ..; a bool is one byte", and "a block's elements lie side by side".
 fn whole_size(kind: Kind, length: Length) -> u32 {
     match kind {
-        Kind::Int => INT_SIZE as u32 * u32::from(length),
+        Kind::Int | Kind::Float => NUMBER_SIZE as u32 * u32::from(length),
         Kind::Bool => u32::from(length),
     }
 }
@@ -34,11 +35,12 @@ impl Variable {
     }
 }
 
-/// Memory: an int is "little-endian two's complement", a bool "false exactly at 0".
+/// Memory: an int is "little-endian two's complement", a bool "false exactly at 0"; document 02,
+/// R-2: a float is its pattern.
 pub fn load(bytes: &[u8], kind: Kind, lanes: &mut Lanes) {
     match kind {
-        Kind::Int => {
-            for (lane, element) in lanes.iter_mut().zip(bytes.chunks_exact(INT_SIZE)) {
+        Kind::Int | Kind::Float => {
+            for (lane, element) in lanes.iter_mut().zip(bytes.chunks_exact(NUMBER_SIZE)) {
                 *lane = u32::from_le_bytes([element[0], element[1], element[2], element[3]]);
             }
         }
@@ -51,23 +53,28 @@ pub fn load(bytes: &[u8], kind: Kind, lanes: &mut Lanes) {
 }
 
 /// Execution: "A store is handed the bytes of one variable and no others", and "writes exactly
-/// the active lanes of its target"; Memory: "a true is written as 1".
+/// the active lanes of its target"; Memory: "a true is written as 1"; document 02, R-2: "Every
+/// stored not-a-number is the pattern 7FC00000".
 pub fn store(bytes: &mut [u8], kind: Kind, lanes: &Lanes, active: Mask) {
     match kind {
-        Kind::Int => {
-            let elements = bytes.chunks_exact_mut(INT_SIZE).zip(lanes);
-            for (lane, (element, value)) in elements.enumerate() {
-                if active >> lane & 1 == 1 {
-                    element.copy_from_slice(&value.to_le_bytes());
-                }
-            }
-        }
+        Kind::Int => store_numbers(bytes, lanes, active, |value| value),
+        Kind::Float => store_numbers(bytes, lanes, active, singles::stored),
         Kind::Bool => {
             for (lane, (element, value)) in bytes.iter_mut().zip(lanes).enumerate() {
                 if active >> lane & 1 == 1 {
                     *element = *value as u8;
                 }
             }
+        }
+    }
+}
+
+/// Memory: "4 bytes little-endian" for each active lane, of the pattern that is stored for its value.
+fn store_numbers(bytes: &mut [u8], lanes: &Lanes, active: Mask, stored: impl Fn(u32) -> u32) {
+    let elements = bytes.chunks_exact_mut(NUMBER_SIZE).zip(lanes);
+    for (lane, (element, value)) in elements.enumerate() {
+        if active >> lane & 1 == 1 {
+            element.copy_from_slice(&stored(*value).to_le_bytes());
         }
     }
 }

@@ -96,6 +96,7 @@ impl Reader<'_> {
             Form::OpenBrace => self.braces()?,
             Form::Int => self.declaration(Kind::Int)?,
             Form::Bool => self.declaration(Kind::Bool)?,
+            Form::Float => self.declaration(Kind::Float)?,
             Form::Name { .. } => self.assignment()?,
             Form::If => self.choice()?,
             Form::While => self.repetition()?,
@@ -253,6 +254,7 @@ impl Reader<'_> {
             Form::Bang => return self.unary(Unary::Not, place),
             Form::OpenParenthesis => return self.parenthesised(),
             Form::Number(number) => Item::Number(number),
+            Form::Single(pattern) => Item::Single(pattern),
             Form::True => Item::Truth(true),
             Form::False => Item::Truth(false),
             Form::CurrentMask => Item::CurrentMask,
@@ -293,6 +295,7 @@ fn starts_statement(form: Form) -> bool {
             | Form::OpenBrace
             | Form::Int
             | Form::Bool
+            | Form::Float
             | Form::Name { .. }
             | Form::If
             | Form::While

@@ -1,6 +1,7 @@
 //! Document 01, "The text": from bytes to tokens.
 
 use crate::answer::{Code, Refusal};
+use crate::singles;
 
 /// The text: "At most 4,096 bytes."
 const LONGEST_TEXT: usize = 4096;
@@ -11,8 +12,12 @@ const LONGEST_NAME: usize = 31;
 /// The text: "A number is decimal, 0 to 2147483647".
 const LARGEST_NUMBER: u32 = 2_147_483_647;
 
-/// The text: "Reserved: int bool block if else while scalar current_mask true false."
-const RESERVED: [(&[u8], Form); 10] = [
+/// Document 02, R-2: "A constant is a whole number up to 16777216".
+const LARGEST_WHOLE: u32 = 16_777_216;
+
+/// The text: "Reserved: int bool block if else while scalar current_mask true false."; document
+/// 02, R-2: "`float` becomes reserved."
+const RESERVED: [(&[u8], Form); 11] = [
     (b"int", Form::Int),
     (b"bool", Form::Bool),
     (b"block", Form::Block),
@@ -23,6 +28,7 @@ const RESERVED: [(&[u8], Form); 10] = [
     (b"current_mask", Form::CurrentMask),
     (b"true", Form::True),
     (b"false", Form::False),
+    (b"float", Form::Float),
 ];
 
 /// The text: a token's form, and where its first byte stands.
@@ -37,8 +43,12 @@ pub struct Token {
 /// The text: names, numbers, reserved words and signs; the text's end is one more form.
 #[derive(Clone, Copy, Debug, PartialEq, Eq)]
 pub enum Form {
-    Name { length: u8 },
+    Name {
+        length: u8,
+    },
     Number(u32),
+    /// Document 02, R-2: "A constant", by its pattern.
+    Single(u32),
     Int,
     Bool,
     Block,
@@ -49,6 +59,7 @@ pub enum Form {
     CurrentMask,
     True,
     False,
+    Float,
     Semicolon,
     OpenBrace,
     CloseBrace,
@@ -110,7 +121,7 @@ fn after_separators(text: &[u8], mut at: usize) -> usize {
 fn token(rest: &[u8]) -> Option<(Form, usize)> {
     match rest[0] {
         b'a'..=b'z' | b'A'..=b'Z' | b'_' => word(rest),
-        b'0'..=b'9' => number(rest),
+        b'0'..=b'9' => digits(rest),
         _ => sign(rest),
     }
 }
@@ -128,18 +139,47 @@ fn word(rest: &[u8]) -> Option<(Form, usize)> {
     Some((reserved.map_or(name, |(_, form)| *form), length))
 }
 
-/// The text: "A number is decimal, 0 to 2147483647, with no leading zero unless it is `0`."
-fn number(rest: &[u8]) -> Option<(Form, usize)> {
-    let length = count(rest, |byte| byte.is_ascii_digit());
-    if rest[0] == b'0' && length > 1 {
+/// The text: "A number is decimal"; document 02, R-2: with a dot behind its digits it is a
+/// "constant", well formed or not.
+fn digits(rest: &[u8]) -> Option<(Form, usize)> {
+    let length = count_digits(rest);
+    match rest.get(length) {
+        Some(b'.') => constant(rest, length),
+        _ => Some((
+            Form::Number(number(&rest[..length], LARGEST_NUMBER)?),
+            length,
+        )),
+    }
+}
+
+/// The text: "0 to 2147483647, with no leading zero unless it is `0`", or to another limit.
+fn number(digits: &[u8], largest: u32) -> Option<u32> {
+    if digits[0] == b'0' && digits.len() > 1 {
         return None;
     }
     let mut value: u32 = 0;
-    for digit in &rest[..length] {
+    for digit in digits {
         let digit = u32::from(digit - b'0');
         value = value.checked_mul(10)?.checked_add(digit)?;
     }
-    (value <= LARGEST_NUMBER).then_some((Form::Number(value), length))
+    (value <= largest).then_some(value)
+}
+
+/// Document 02, R-2: "a whole number up to 16777216 followed by `.0`"; any other digits behind
+/// the dot make it "malformed".
+fn constant(rest: &[u8], whole: usize) -> Option<(Form, usize)> {
+    let value = number(&rest[..whole], LARGEST_WHOLE)?;
+    let behind = &rest[whole + 1..];
+    let length = count_digits(behind);
+    if behind[..length] != *b"0" {
+        return None;
+    }
+    Some((Form::Single(singles::constant(value)), whole + 1 + length))
+}
+
+/// The text: how many digits stand here.
+fn count_digits(rest: &[u8]) -> usize {
+    count(rest, |byte| byte.is_ascii_digit())
 }
 
 /// The text: "Signs: `; { } ( ) [ ] = == != < > <= >= + - * & | ^ ~ !`", longest first.

@@ -34,7 +34,7 @@ pub enum Shape {
 /// The text: "a declaration, a declaration with initial value".
 #[derive(Debug)]
 pub struct Declaration {
-    /// The text: "A type is `int` or `bool`".
+    /// The text: "A type is `int` or `bool`"; document 02, R-2: or `float`.
     pub kind: Kind,
     /// The text: "then perhaps `block[N]`", with the place of N.
     pub block: Option<(u32, u32)>,
@@ -44,11 +44,12 @@ pub struct Declaration {
     pub value: Option<RightSide>,
 }
 
-/// Typing: "Each expression has a kind", int or bool.
+/// Typing: "Each expression has a kind", int or bool; document 02, R-2: "Add `float`".
 #[derive(Clone, Copy, Debug, PartialEq, Eq)]
 pub enum Kind {
     Int,
     Bool,
+    Float,
 }
 
 /// The text: a name where it stands.
@@ -90,6 +91,8 @@ pub struct Expression {
 #[derive(Clone, Copy, Debug)]
 pub enum Item {
     Number(u32),
+    /// Document 02, R-2: "A constant", by its pattern.
+    Single(u32),
     Truth(bool),
     CurrentMask,
     Name(Name),

@@ -261,6 +261,7 @@ impl Typing<'_> {
     fn item(&mut self, read: tree::Item, context: Length) -> Typed<(Item, Type)> {
         let (item, kind, length) = match read {
             tree::Item::Number(number) => (Item::Constant(number), Kind::Int, 1),
+            tree::Item::Single(pattern) => (Item::Constant(pattern), Kind::Float, 1),
             tree::Item::Truth(truth) => (Item::Constant(u32::from(truth)), Kind::Bool, 1),
             tree::Item::CurrentMask => (Item::CurrentMask, Kind::Bool, context),
             tree::Item::Name(name) => {
@@ -279,30 +280,32 @@ impl Typing<'_> {
         operand.expect("an operator's operands are read before it")
     }
 
-    /// Typing: "`-` `~` take int, `!` bool."
+    /// Typing: "`-` `~` take int, `!` bool."; document 02, R-2: "unary minus" takes floats too.
     fn unary(&mut self, operator: Unary, place: u32) -> Typed<(Item, Type)> {
         let operand = self.operand();
+        let Type { kind, length } = operand;
         let taken = match operator {
-            Unary::Minus | Unary::Complement => Kind::Int,
-            Unary::Not => Kind::Bool,
+            Unary::Minus => is_number(kind),
+            Unary::Complement => kind == Kind::Int,
+            Unary::Not => kind == Kind::Bool,
         };
-        if operand.kind != taken {
+        if !taken {
             return Err(Refusal::new(Code::WrongKind, place));
         }
-        Ok((Item::Unary(operator, operand.length), operand))
+        Ok((Item::Unary(operator, kind, length), operand))
     }
 
     /// Typing: "A binary operator needs equal lengths or one of length 1, which is replicated."
     fn binary(&mut self, operator: Binary, place: u32) -> Typed<(Item, Type)> {
         let right = self.operand();
         let left = self.operand();
-        let kind = binary_kind(operator, left.kind, right.kind);
-        let kind = kind.ok_or(Refusal::new(Code::WrongKind, place))?;
+        let result = binary_kind(operator, left.kind, right.kind);
+        let kind = result.ok_or(Refusal::new(Code::WrongKind, place))?;
         if left.length != right.length && left.length != 1 && right.length != 1 {
             return Err(Refusal::new(Code::WrongLength, place));
         }
         let length = left.length.max(right.length);
-        let item = Item::Binary(operator, left.length, right.length);
+        let item = Item::Binary(operator, left.kind, (left.length, right.length));
         Ok((item, Type { kind, length }))
     }
 }
@@ -338,20 +341,24 @@ fn check_store(target: Type, value: Type, assign: u32, context: Length) -> Typed
     Ok(())
 }
 
+/// Document 02, R-2: "with `+ - *`, unary minus and all comparisons": the kinds that have them all.
+fn is_number(kind: Kind) -> bool {
+    matches!(kind, Kind::Int | Kind::Float)
+}
+
 /// Typing: "`+ - *` and `< > <= >=` take ints; `== != & | ^` take two of one kind .. Comparisons
-/// give bool, the others their operands' kind."
+/// give bool, the others their operands' kind."; document 02, R-2: floats have "`+ - *` .. and all
+/// comparisons", and 8 is given "for a float under `& | ^ ~` or mixed with int".
 fn binary_kind(operator: Binary, left: Kind, right: Kind) -> Option<Kind> {
     if left != right {
         return None;
     }
     match operator {
-        Binary::Or | Binary::Xor | Binary::And => Some(left),
+        Binary::Or | Binary::Xor | Binary::And => (left != Kind::Float).then_some(left),
         Binary::Equal | Binary::Unequal => Some(Kind::Bool),
         Binary::Less | Binary::Greater | Binary::AtMost | Binary::AtLeast => {
-            (left == Kind::Int).then_some(Kind::Bool)
+            is_number(left).then_some(Kind::Bool)
         }
-        Binary::Add | Binary::Subtract | Binary::Multiply => {
-            (left == Kind::Int).then_some(Kind::Int)
-        }
+        Binary::Add | Binary::Subtract | Binary::Multiply => is_number(left).then_some(left),
     }
 }

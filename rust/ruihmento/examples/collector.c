@@ -20,6 +20,29 @@ static void print_answer(const uint8_t *answer)
            (unsigned)number(answer, 2), (unsigned)number(answer, 3));
 }
 
+/* Runs a routine over floats, and prints what it left; 0 where its variable is a float and it ends. */
+static int amplitudes(void)
+{
+    const char *routine = "float block[2] v; if (v < 0.0) v = -v; else ;";
+    const uint8_t *text = (const uint8_t *)routine;
+    float levels[2] = {-1.5f, 0.25f};
+    uint8_t answer[RUIHMENTO_RECORD_BYTES];
+    uint8_t record[RUIHMENTO_RECORD_BYTES];
+    uint8_t memory[sizeof levels];
+
+    ruihmento_variables(text, strlen(routine), record, sizeof record, answer, sizeof answer);
+    if (number(answer, 2) != sizeof memory || number(record, 1) != RUIHMENTO_FLOAT)
+        return 1;
+    /* A lane is a float as this processor has it. */
+    memcpy(memory, levels, sizeof memory);
+    ruihmento_run(text, strlen(routine), memory, sizeof memory, 1000, answer, sizeof answer);
+    if (number(answer, 0) != 0)
+        return 1;
+    memcpy(levels, memory, sizeof memory);
+    printf("%g %g\n", levels[0], levels[1]);
+    return 0;
+}
+
 int main(void)
 {
     const char *routine =
@@ -49,5 +72,7 @@ int main(void)
 
     ruihmento_judge((const uint8_t *)"int x", 5, answer, sizeof answer);
     print_answer(answer);
-    return ruihmento_judge(text, text_len, answer, 15) == 0 ? 0 : 1;
+    if (ruihmento_judge(text, text_len, answer, 15) != 0)
+        return 1;
+    return amplitudes();
 }

@@ -26,7 +26,7 @@
  *    0     accepted, or the run ended                        0
  *    1     text above 4,096 bytes                            0
  *    2     byte outside the text rules, name too long,       token start
- *          bad number
+ *          bad number, bad constant of a float
  *    3     token not allowed, or text ends too soon          token, or text length
  *    4     nesting above 32                                  token
  *    5     unknown name                                      name
@@ -62,6 +62,7 @@ extern "C" {
 /* The kinds in a record of the table of variables. */
 #define RUIHMENTO_INT 0
 #define RUIHMENTO_BOOL 1
+#define RUIHMENTO_FLOAT 2
 
 /*
  * Judges a text: codes 0 to 11, steps 0.
@@ -113,12 +114,14 @@ size_t ruihmento_run_each(const uint8_t *text, size_t text_len,
  * many declarations the text has, 0 for a text that is refused. For an
  * accepted text the table takes one record of 16 bytes for each declaration
  * in text order, as many as fit whole: the place of its name, its kind
- * (0 int, 1 bool), its length in lanes and its address, each a 32-bit
+ * (0 int, 1 bool, 2 float), its length in lanes and its address, each a 32-bit
  * little-endian number. Every other byte of the table stays, and all of it
  * where the text is refused.
  *
  * A lane of an int is 4 bytes, little-endian two's complement; a lane of a
- * bool is one byte, false exactly at 0. The lanes of a block lie side by side.
+ * bool is one byte, false exactly at 0; a lane of a float is 4 bytes, an IEEE
+ * single little-endian, and every not-a-number that a run stores is 7FC00000.
+ * The lanes of a block lie side by side.
  */
 uint32_t ruihmento_variables(const uint8_t *text, size_t text_len,
                              uint8_t *table, size_t table_len,

@@ -10,6 +10,8 @@ pub enum Kind {
     Int,
     /// One byte, false exactly at 0.
     Bool,
+    /// An IEEE single, 4 bytes little-endian.
+    Float,
 }
 
 impl Kind {
@@ -18,6 +20,7 @@ impl Kind {
         match number {
             0 => Some(Kind::Int),
             1 => Some(Kind::Bool),
+            2 => Some(Kind::Float),
             _ => None,
         }
     }
@@ -26,7 +29,7 @@ impl Kind {
     #[must_use]
     pub fn size(self) -> usize {
         match self {
-            Kind::Int => 4,
+            Kind::Int | Kind::Float => 4,
             Kind::Bool => 1,
         }
     }
@@ -37,18 +40,23 @@ impl fmt::Display for Kind {
         f.write_str(match self {
             Kind::Int => "int",
             Kind::Bool => "bool",
+            Kind::Float => "float",
         })
     }
 }
 
 /// The values of a variable, lane by lane, where the kind is known only when the program runs.
-#[derive(Clone, Debug, PartialEq, Eq, Hash)]
+///
+/// Floats are equal as Rust's are: a not-a-number to none, and zero to minus zero.
+#[derive(Clone, Debug, PartialEq)]
 #[non_exhaustive]
 pub enum Lanes {
     /// Ints.
     Int(Vec<i32>),
     /// Bools, by truth: any byte other than 0 is true.
     Bool(Vec<bool>),
+    /// Floats.
+    Float(Vec<f32>),
 }
 
 impl Lanes {
@@ -58,6 +66,7 @@ impl Lanes {
         match self {
             Lanes::Int(_) => Kind::Int,
             Lanes::Bool(_) => Kind::Bool,
+            Lanes::Float(_) => Kind::Float,
         }
     }
 }
@@ -67,6 +76,7 @@ impl fmt::Display for Lanes {
         let words: Vec<String> = match self {
             Lanes::Int(values) => values.iter().map(i32::to_string).collect(),
             Lanes::Bool(values) => values.iter().map(bool::to_string).collect(),
+            Lanes::Float(values) => values.iter().map(|value| format!("{value:?}")).collect(),
         };
         f.write_str(&words.join(" "))
     }
@@ -80,7 +90,8 @@ mod tests {
     fn a_kind_that_is_not_known_is_none() {
         assert_eq!(Kind::from_number(0), Some(Kind::Int));
         assert_eq!(Kind::from_number(1), Some(Kind::Bool));
-        assert_eq!(Kind::from_number(2), None);
+        assert_eq!(Kind::from_number(2), Some(Kind::Float));
+        assert_eq!(Kind::from_number(3), None);
         assert_eq!(Kind::from_number(u32::MAX), None);
     }
 }

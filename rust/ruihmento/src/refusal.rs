@@ -17,7 +17,8 @@ use std::fmt;
 pub enum Refusal {
     /// Code 1: the text is above 4,096 bytes.
     TextTooLong,
-    /// Code 2: a byte outside the text rules, a name too long, or a bad number.
+    /// Code 2: a byte outside the text rules, a name too long, a bad number, or a bad constant of
+    /// a float.
     BadBytes,
     /// Code 3: a token that is not allowed where it stands, or a text that ends too soon.
     NotAllowed,
@@ -113,8 +114,9 @@ impl Refusal {
         match self {
             Refusal::TextTooLong => "the text is longer than 4,096 bytes",
             Refusal::BadBytes => {
-                "this is a byte outside the text rules, a name of more than 31 bytes, or a number \
-                 that is above 2147483647 or starts with a spare zero"
+                "this is a byte outside the text rules, a name of more than 31 bytes, a number \
+                 that is above 2147483647 or starts with a spare zero, or a float other than a \
+                 whole number up to 16777216 followed by `.0`"
             }
             Refusal::NotAllowed => "this token is not allowed here, or the text ends too soon",
             Refusal::TooDeep => "this token opens the 33rd level of nesting; the limit is 32",
@@ -122,8 +124,8 @@ impl Refusal {
             Refusal::AlreadyOpen => "a variable of this name is already open here",
             Refusal::LengthNotListed => "a block has 1, 2, 4, 8, 16, 32 or 64 lanes",
             Refusal::WrongKind => {
-                "the kind is wrong: an int stands where a bool is needed, or a bool where an int \
-                 is needed"
+                "the kind is wrong: ints, bools and floats do not go together, a condition is a \
+                 bool, and not every operator takes every kind"
             }
             Refusal::WrongLength => {
                 "the length is wrong: lengths must be equal or one of them 1, and under a block \

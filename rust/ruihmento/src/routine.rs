@@ -102,6 +102,21 @@ impl Routine {
         self.variable(name)?.set_bools(memory, values)
     }
 
+    /// Puts these floats into the lanes of this variable, each with its pattern as it is.
+    ///
+    /// ```
+    /// let text = "float block[2] level; if (level < 0.0) level = -level; else ;";
+    /// let routine = ruihmento::Routine::new(text)?;
+    /// let mut memory = vec![0; routine.need()];
+    /// routine.set_floats(&mut memory, "level", &[-1.5, 0.25])?;
+    /// routine.run(&mut memory, 1_000)?;
+    /// assert!(routine.floats(&memory, "level")?.eq([1.5, 0.25]));
+    /// # Ok::<(), Box<dyn std::error::Error>>(())
+    /// ```
+    pub fn set_floats(&self, memory: &mut [u8], name: &str, values: &[f32]) -> Result<(), Misfit> {
+        self.variable(name)?.set_floats(memory, values)
+    }
+
     /// The lanes of this variable, as ints.
     pub fn ints<'m>(
         &self,
@@ -118,6 +133,15 @@ impl Routine {
         name: &str,
     ) -> Result<impl ExactSizeIterator<Item = bool> + 'm, Misfit> {
         self.variable(name)?.bools(memory)
+    }
+
+    /// The lanes of this variable, as floats.
+    pub fn floats<'m>(
+        &self,
+        memory: &'m [u8],
+        name: &str,
+    ) -> Result<impl ExactSizeIterator<Item = f32> + 'm, Misfit> {
+        self.variable(name)?.floats(memory)
     }
 
     /// Runs the routine over this memory, for at most `budget` steps.

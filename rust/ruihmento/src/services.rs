@@ -93,7 +93,7 @@ pub fn run_each(
 /// answer, and one record of 16 bytes for each, as many as fit whole, into the table.
 ///
 /// A record is four 32-bit little-endian numbers: the place of the name, the kind (0 int, 1
-/// bool), the length and the address. Every other byte of the table stays, and all of it where
+/// bool, 2 float), the length and the address. Every other byte of the table stays, and all of it where
 /// the text is refused.
 #[must_use = "the answer slice may be too short"]
 pub fn variables(text: &[u8], table: &mut [u8], answer: &mut [u8]) -> u32 {

@@ -82,6 +82,22 @@ impl<'t> Variable<'t> {
         Ok(bytes.iter().map(|byte| *byte != 0))
     }
 
+    /// Its lanes in this memory, as floats, each with the very pattern that lies there.
+    ///
+    /// ```
+    /// let listed = ruihmento::variables(b"float block[2] level;")?;
+    /// let level = listed.list[0].floats(&[0, 0, 0xc0, 0x3f, 0, 0, 0, 0x80])?;
+    /// assert!(level.eq([1.5, -0.0]));
+    /// # Ok::<(), Box<dyn std::error::Error>>(())
+    /// ```
+    pub fn floats<'m>(
+        &self,
+        memory: &'m [u8],
+    ) -> Result<impl ExactSizeIterator<Item = f32> + 'm, Misfit> {
+        let bytes = self.bytes(memory, Kind::Float)?;
+        Ok(bytes.chunks_exact(4).map(float))
+    }
+
     /// Puts these ints into its lanes.
     ///
     /// ```
@@ -111,6 +127,24 @@ impl<'t> Variable<'t> {
         Ok(())
     }
 
+    /// Puts these floats into its lanes, each with its pattern as it is: a run makes every
+    /// not-a-number that it stores the one pattern 7FC00000, this does not.
+    ///
+    /// ```
+    /// let listed = ruihmento::variables(b"float block[2] level;")?;
+    /// let mut memory = vec![0xaa; listed.need];
+    /// listed.list[0].set_floats(&mut memory, &[1.5, -0.0])?;
+    /// assert_eq!(memory, [0, 0, 0xc0, 0x3f, 0, 0, 0, 0x80]);
+    /// # Ok::<(), Box<dyn std::error::Error>>(())
+    /// ```
+    pub fn set_floats(&self, memory: &mut [u8], values: &[f32]) -> Result<(), Misfit> {
+        let lanes = self.bytes_for(memory, Kind::Float, values.len())?;
+        for (lane, value) in lanes.chunks_exact_mut(4).zip(values) {
+            lane.copy_from_slice(&value.to_bits().to_le_bytes());
+        }
+        Ok(())
+    }
+
     /// Its lanes in this memory, whatever its kind; none where the memory is too short.
     ///
     /// ```
@@ -124,6 +158,7 @@ impl<'t> Variable<'t> {
         Some(match self.kind {
             Kind::Int => Lanes::Int(self.ints(memory).ok()?.collect()),
             Kind::Bool => Lanes::Bool(self.bools(memory).ok()?.collect()),
+            Kind::Float => Lanes::Float(self.floats(memory).ok()?.collect()),
         })
     }
 
@@ -146,6 +181,7 @@ impl<'t> Variable<'t> {
         match lanes {
             Lanes::Int(values) => self.set_ints(memory, values),
             Lanes::Bool(values) => self.set_bools(memory, values),
+            Lanes::Float(values) => self.set_floats(memory, values),
         }
     }
 
@@ -256,6 +292,11 @@ fn int(bytes: &[u8]) -> i32 {
     i32::from_le_bytes([bytes[0], bytes[1], bytes[2], bytes[3]])
 }
 
+/// The float whose pattern is in these four bytes.
+fn float(bytes: &[u8]) -> f32 {
+    f32::from_bits(u32::from_le_bytes([bytes[0], bytes[1], bytes[2], bytes[3]]))
+}
+
 /// Where the name ends that starts at this place of the text.
 fn name_end(text: &[u8], place: usize) -> usize {
     let rest = text.get(place..).unwrap_or_default();
@@ -279,9 +320,9 @@ mod tests {
         let text = b"real x;";
         let listed = Declared::from_record(&record([5, 1, 1, 0]), text).unwrap();
         assert_eq!(listed.variable(text).name, "x");
-        let refused = Declared::from_record(&record([5, 2, 1, 0]), text).unwrap_err();
+        let refused = Declared::from_record(&record([5, 3, 1, 0]), text).unwrap_err();
         let expected = Refused {
-            refusal: Refusal::OtherKind(2),
+            refusal: Refusal::OtherKind(3),
             place: 5,
         };
         assert_eq!(refused, expected);

@@ -4,13 +4,14 @@
 use std::path::{Path, PathBuf};
 use std::process::{Command, Output};
 
-/// What `collector.c` prints: the listing's answer, the run's and its memory, a refusal.
+/// What `collector.c` prints: the listing's answer, the run's and its memory, a refusal, two floats.
 const COLLECTOR: &str = "0 0 48 3\n\
     0 0 48 8\n\
     01000100aaaaaaaaaaaaaaaaaaaaaaaa\n\
     0e000000070000000f0000005a000000\n\
     0a0000000a0000000a0000000a000000\n\
-    3 5 0 0\n";
+    3 5 0 0\n\
+    1.5 0.25\n";
 
 /// What `recording.c` prints: each image's answer and what it left, then those of a refused text.
 const RECORDING: &str = "0 0 12 11: 01 aa aa aa 00 00 00 00 02 00 00 00\n\

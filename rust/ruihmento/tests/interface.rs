@@ -13,7 +13,7 @@ fn refused_texts() -> [String; 11] {
         "x = 1;".into(),
         "int a; int a;".into(),
         "int block[3] v;".into(),
-        "bool b = 3;".into(),
+        "float x = 3;".into(),
         "int block[4] a; int block[2] b; a = a + b;".into(),
         "bool block[4] m; int s; if (m) s = 1; else ;".into(),
         (0..65).map(|number| format!("int v{number};")).collect(),
@@ -80,7 +80,7 @@ fn an_accepted_text_may_still_not_end() {
 
 #[test]
 fn variables_are_listed_in_text_order() {
-    let text = b"{ int v; } bool block[8] _m1; // v\n{ int block[2] v; }";
+    let text = b"{ int v; } bool block[8] _m1; // v\n{ float block[2] v; }";
     let listed = variables(text).unwrap();
     let rows = listed.list.iter();
     let rows: Vec<_> = rows
@@ -89,7 +89,7 @@ fn variables_are_listed_in_text_order() {
     let expected = [
         ("v", Kind::Int, 1, 0, 6),
         ("_m1", Kind::Bool, 8, 8, 25),
-        ("v", Kind::Int, 2, 16, 50),
+        ("v", Kind::Float, 2, 16, 52),
     ];
     assert_eq!(rows, expected);
     assert_eq!(listed.need, 24);
@@ -124,6 +124,72 @@ fn values_go_into_memory_and_come_back() {
     assert_eq!(b.lanes(&[0, 200]), Some(Lanes::Bool(vec![false, true])));
     assert_eq!(v.lanes(&memory[..15]), None);
     assert_eq!(v.lanes(&memory).unwrap().to_string(), "-1 258");
+}
+
+/// The floats of these patterns.
+fn singles<const N: usize>(patterns: [u32; N]) -> [f32; N] {
+    patterns.map(f32::from_bits)
+}
+
+#[test]
+fn floats_go_into_memory_with_their_patterns_and_come_back() {
+    let listed = variables(b"bool b; float block[8] v;").unwrap();
+    let v = &listed.list[1];
+    assert_eq!((v.kind, v.range()), (Kind::Float, 32..64));
+    let patterns = [
+        0x3fc0_0000,
+        0x8000_0000,
+        1,
+        0x7f7f_ffff,
+        0xff80_0000,
+        0x7f80_0001,
+        0xffff_ffff,
+        0x7fc0_0000,
+    ];
+    let mut memory = [0xaa; 64];
+    let floats = Lanes::Float(singles(patterns).to_vec());
+    v.put(&mut memory, &floats).unwrap();
+    assert_eq!(memory[..32], [0xaa; 32]);
+    let bytes: Vec<u8> = patterns
+        .iter()
+        .flat_map(|pattern| pattern.to_le_bytes())
+        .collect();
+    assert_eq!(memory[32..], bytes);
+    assert!(v.floats(&memory).unwrap().map(f32::to_bits).eq(patterns));
+    let lanes = v.lanes(&memory).unwrap();
+    assert_eq!(lanes.kind(), Kind::Float);
+    let shown = "1.5 -0.0 1e-45 3.4028235e38 -inf NaN NaN NaN";
+    assert_eq!(lanes.to_string(), shown);
+    assert_eq!(v.lanes(&memory[..63]), None);
+}
+
+#[test]
+fn a_float_is_no_int() {
+    let listed = variables(b"float x; int y;").unwrap();
+    let (x, y) = (&listed.list[0], &listed.list[1]);
+    let mut memory = [0xaa; 8];
+    let words = |misfit: Result<(), Misfit>| misfit.unwrap_err().to_string();
+    let misfit = words(x.set_ints(&mut memory, &[1]));
+    assert_eq!(misfit, "`x` is float, and the values are int");
+    let misfit = words(y.set_floats(&mut memory, &[1.0]));
+    assert_eq!(misfit, "`y` is int, and the values are float");
+    assert!(y.floats(&memory).is_err() && x.ints(&memory).is_err());
+    let misfit = words(x.set_floats(&mut memory, &[1.0, 2.0]));
+    assert_eq!(misfit, "`x` has length 1, and the values have length 2");
+    assert_eq!(memory, [0xaa; 8]);
+}
+
+#[test]
+fn a_run_stores_one_not_a_number_and_leaves_others() {
+    let listed = variables(b"float x; float y; x = x;").unwrap();
+    let mut memory = [0; 8];
+    for float in &listed.list {
+        float
+            .set_floats(&mut memory, &singles([0xffff_ffff]))
+            .unwrap();
+    }
+    assert!(run(b"float x; float y; x = x;", &mut memory, 9).is_ended());
+    assert_eq!(memory, [0, 0, 0xc0, 0x7f, 0xff, 0xff, 0xff, 0xff]);
 }
 
 #[test]

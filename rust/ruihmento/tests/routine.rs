@@ -55,6 +55,28 @@ fn samples_of_64_lanes_go_in_and_come_back_by_name() {
     assert_eq!(misfit.to_string(), words);
 }
 
+/// Amplitudes as they are measured: a lane that is not valid keeps what it has.
+#[test]
+fn floats_go_in_and_come_back_by_name() {
+    let text = ROUTINE.replace("int", "float").replace("= 10", "= 10.0");
+    let routine = Routine::new(text).unwrap();
+    let mut memory = vec![0xaa; routine.need()];
+    let ok = [true, false, true, false];
+    routine.set_bools(&mut memory, "ok", &ok).unwrap();
+    let samples = [4.25, 7.5, -0.0, f32::NAN];
+    routine.set_floats(&mut memory, "s", &samples).unwrap();
+    assert_eq!(routine.run(&mut memory, 1_000).unwrap().steps, 7);
+    let s: Vec<f32> = routine.floats(&memory, "s").unwrap().collect();
+    assert_eq!(s[..3], [14.25, 7.5, 10.0]);
+    assert_eq!(s[3].to_bits(), f32::NAN.to_bits());
+    assert!(routine.floats(&memory, "t").unwrap().eq([10.0; 4]));
+    let misfit = routine.set_ints(&mut memory, "s", &[1; 4]).unwrap_err();
+    assert_eq!(misfit.to_string(), "`s` is float, and the values are int");
+    let misfit = routine.floats(&memory, "S").err().unwrap();
+    let words = "no variable is named `S`; the nearest is `s`";
+    assert_eq!(misfit.to_string(), words);
+}
+
 #[test]
 fn a_run_that_is_stopped_says_where_and_how_far() {
     let (routine, mut memory) = routine();

@@ -2,10 +2,10 @@
 //! implementation and the same kernels in C and Lua.
 
 use crate::peer::{Peer, LUAS};
-use crate::texts::{countdown, counters, routine, routine_memory, sum};
+use crate::texts::{countdown, counters, in_floats, products, routine, routine_memory, sum};
 use crate::timing::{best, Side};
 use oracle::Program;
-use ruihmento::{Routine, ANSWER_BYTES};
+use ruihmento::{Kind, Routine, ANSWER_BYTES};
 
 /// How many images stand in the greater batches, where a call of them does not last too long.
 const BATCHES: [usize; 2] = [1_000, 10_000];
@@ -77,6 +77,44 @@ impl Kernel {
             written: ["n", "n"],
             lanes,
             compared: 10,
+        }
+    }
+
+    /// Products and sums, a statement after another.
+    pub fn products(lanes: usize) -> Self {
+        let routine = Routine::new(products(lanes)).expect("it is accepted");
+        let mut image = counters(lanes);
+        image.truncate(routine.need());
+        Kernel {
+            what: "four products and four sums",
+            name: None,
+            steps: steps(&routine, &image),
+            image,
+            routine,
+            written: ["n", "a"],
+            lanes,
+            compared: 1_000,
+        }
+    }
+
+    /// The same in floats, which start from the same numbers.
+    pub fn in_floats(&self) -> Self {
+        let routine = Routine::new(in_floats(self.routine.text())).expect("it is accepted");
+        let mut image = self.image.clone();
+        let ints = self.routine.variables().zip(routine.variables());
+        for (int, float) in ints.filter(|(int, _)| int.kind == Kind::Int) {
+            let values = int.ints(&self.image).expect("it is there");
+            let values: Vec<f32> = values.map(|value| value as f32).collect();
+            let put = float.set_floats(&mut image, &values);
+            put.expect("an int and a float are of one size");
+        }
+        Kernel {
+            what: self.what,
+            name: None,
+            steps: steps(&routine, &image),
+            image,
+            routine,
+            ..*self
         }
     }
 
@@ -224,25 +262,33 @@ fn peers(kernel: &Kernel) -> Vec<Timed<'static>> {
 }
 
 /// The batch of `run_each` with so many images.
-fn batch(kernel: &Kernel, count: usize) -> Timed<'_> {
+fn batch_of(kernel: &Kernel, count: usize) -> Timed<'_> {
     let name = format!("`run_each`, {count} images");
     Timed::here(&name, kernel, count, each(kernel, count))
 }
 
-/// The independent implementation over as many images as are compared, and the same kernel
-/// elsewhere.
-fn others(kernel: &Kernel) -> Vec<Timed<'_>> {
+/// The batch of `run_each` that is compared with the other sides.
+pub fn batch(kernel: &Kernel) -> Timed<'_> {
+    batch_of(kernel, kernel.compared)
+}
+
+/// The independent implementation over as many images as are compared.
+pub fn independently(kernel: &Kernel) -> Timed<'_> {
     let count = kernel.compared;
     let name = format!("independent Rust, {count} images, judged once");
-    let independent = independent(kernel, count);
-    let mut others = vec![Timed::here(&name, kernel, count, independent)];
+    Timed::here(&name, kernel, count, independent(kernel, count))
+}
+
+/// The independent implementation, and the same kernel elsewhere.
+fn others(kernel: &Kernel) -> Vec<Timed<'_>> {
+    let mut others = vec![independently(kernel)];
     others.extend(peers(kernel));
     others
 }
 
 /// The batch that is compared with the other sides, and these, each by a name without numbers.
 pub fn compared(kernel: &Kernel) -> Vec<Timed<'_>> {
-    let mut sides = vec![batch(kernel, kernel.compared)];
+    let mut sides = vec![batch(kernel)];
     sides.extend(others(kernel));
     sides[0].name = "`run_each`".into();
     sides[1].name = "independent Rust".into();
@@ -253,14 +299,14 @@ pub fn compared(kernel: &Kernel) -> Vec<Timed<'_>> {
 fn sides(kernel: &Kernel) -> Vec<Timed<'_>> {
     let count = kernel.compared;
     let mut sides = vec![
-        batch(kernel, count),
+        batch(kernel),
         Timed::here("`run`", kernel, 1, alone(kernel)),
     ];
     let more = BATCHES.into_iter().filter(|more| {
         let steps = *more as f64 * kernel.work();
         *more != count && steps <= MOST_WORK
     });
-    sides.extend(more.map(|more| batch(kernel, more)));
+    sides.extend(more.map(|more| batch_of(kernel, more)));
     sides.extend(others(kernel));
     sides
 }

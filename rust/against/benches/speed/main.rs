@@ -6,6 +6,7 @@
 //! of a row are timed in turn, round after round, and each one's best round counts.
 
 mod calls;
+mod floats;
 mod growth;
 mod images;
 mod lanes;
@@ -17,10 +18,11 @@ mod timing;
 type Print = fn(&[usize]);
 
 /// The tables, by the word that chooses one.
-const TABLES: [(&str, Print); 4] = [
+const TABLES: [(&str, Print); 5] = [
     ("calls", calls::print),
     ("images", images::print),
     ("lanes", lanes::print),
+    ("floats", floats::print),
     ("growth", growth::print),
 ];
 

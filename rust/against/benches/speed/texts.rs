@@ -1,5 +1,7 @@
 //! The texts that are judged and run, and their memories.
 
+use generate::pieces;
+
 /// Four small texts of document 01.
 pub const SMALL: [&str; 4] = [
     "int x = 2147483647 + 1;",
@@ -76,6 +78,28 @@ pub fn sum(length: usize) -> String {
         "int block[{length}] n; int block[{length}] a = 0; \
          while (0 < n) {{ a = a + n; n = n - 1; }}"
     )
+}
+
+/// Four products and four sums in every lane.
+pub fn products(length: usize) -> String {
+    format!(
+        "int block[{length}] n; int block[{length}] a; \
+         a = a * n + n; a = a * 3 - n; a = n - a * n; a = a * n + a;"
+    )
+}
+
+/// The same text in floats: every int a float, every number a constant of one.
+pub fn in_floats(text: &[u8]) -> Vec<u8> {
+    let mut floats = Vec::new();
+    for piece in pieces(text) {
+        let length = floats.ends_with(b"block[");
+        match piece.bytes {
+            b"int" => floats.extend(b"float"),
+            [b'0'..=b'9', ..] if !length => floats.extend([piece.bytes, b".0"].concat()),
+            other => floats.extend(other),
+        }
+    }
+    floats
 }
 
 /// The memory of `sum`: 10, 20, 30 .., so that the lanes leave the loop one by one.

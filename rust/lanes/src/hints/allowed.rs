@@ -3,17 +3,21 @@
 use crate::syntax::expression;
 use crate::syntax::tokens::{RESERVED, SIGNS};
 
-/// A name and a number, for those that are asked about.
+/// A name, a number and a constant of a float, for those that are asked about.
 const NAME: &str = "x";
 const NUMBER: &str = "1";
+const FLOAT: &str = "1.0";
 
 /// With what a statement begins.
-const STATEMENT: [&str; 8] = [NAME, "int", "bool", "if", "while", "scalar", ";", "{"];
+const STATEMENT: [&str; 9] = [
+    NAME, "int", "bool", "float", "if", "while", "scalar", ";", "{",
+];
 
 /// With what a value begins.
-const VALUE: [&str; 9] = [
+const VALUE: [&str; 10] = [
     NAME,
     NUMBER,
+    FLOAT,
     "true",
     "false",
     "current_mask",
@@ -32,7 +36,8 @@ pub struct Allowed {
 /// The tokens that may stand behind this beginning of a text: those at which the judge does not
 /// refuse it as not allowed. None are known where the text would become too long.
 pub fn at(beginning: &[u8]) -> Allowed {
-    let all = [NAME, NUMBER].into_iter().chain(RESERVED).chain(SIGNS);
+    let all = [NAME, NUMBER, FLOAT].into_iter();
+    let all = all.chain(RESERVED).chain(SIGNS);
     let may_stand = |token: &&str| {
         // The line break ends a comment.
         let text = [beginning, b"\n", token.as_bytes()].concat();
@@ -83,6 +88,7 @@ impl Allowed {
         words.extend(rest.iter().map(|token| match *token {
             NAME => "a name".into(),
             NUMBER => "a number".into(),
+            FLOAT => "a float".into(),
             token => format!("`{token}`"),
         }));
         let last = words.pop()?;

@@ -2,6 +2,7 @@
 
 use super::allowed::Allowed;
 use crate::source::Source;
+use crate::syntax::facts;
 use crate::syntax::tokens::{Sort, Token};
 
 /// Words of other languages that stand before a statement or a block.
@@ -10,9 +11,9 @@ const STATEMENTS: [&str; 9] = [
 ];
 
 /// Kinds of other languages.
-const KINDS: [&str; 18] = [
-    "float", "double", "char", "long", "short", "unsigned", "signed", "uint", "i32", "u32", "f32",
-    "void", "auto", "let", "var", "const", "boolean", "string",
+const KINDS: [&str; 17] = [
+    "double", "char", "long", "short", "unsigned", "signed", "uint", "i32", "u32", "f32", "void",
+    "auto", "let", "var", "const", "boolean", "string",
 ];
 
 /// The token that is not allowed, with its neighbours.
@@ -98,12 +99,17 @@ impl Place<'_, '_> {
         }
     }
 
-    /// A word of another language before the token, or a reserved word in place of a name.
+    /// A word of another language before the token, or a reserved word in place of a name or as a
+    /// conversion.
     fn word(&self) -> Option<String> {
         let (token, before) = (self.token, self.before?);
         if token.sort == Sort::Word && self.allowed.has_name() && !self.allowed.has("int") {
             let word = token.text;
-            return Some(format!("`{word}` is a reserved word, and no name."));
+            let value = self.allowed.has("true");
+            return Some(match word {
+                "int" | "float" if value => facts::NO_CONVERSION.into(),
+                _ => format!("`{word}` is a reserved word, and no name."),
+            });
         }
         if before.sort != Sort::Name || !self.allowed.is("=") {
             return None;
@@ -113,7 +119,7 @@ impl Place<'_, '_> {
             "for" => Some("There is no `for`: use `while`.".into()),
             _ if STATEMENTS.contains(&word) => Some(format!("There is no `{word}`.")),
             _ if KINDS.contains(&word) => Some(format!(
-                "There is no `{word}`: the kinds are `int` and `bool`."
+                "There is no `{word}`: the kinds are `int`, `bool` and `float`."
             )),
             _ if token.is("(") => Some("There are no functions.".into()),
             _ => None,
@@ -130,7 +136,7 @@ impl Place<'_, '_> {
                     "There is no indexing: `{name}` stands for all its lanes."
                 ))
             }
-            _ if before.is("int") || before.is("bool") => {
+            _ if ["int", "bool", "float"].iter().any(|kind| before.is(kind)) => {
                 let kind = before.text;
                 Some(format!("A block is written `{kind} block[4]`."))
             }
@@ -142,14 +148,15 @@ impl Place<'_, '_> {
     fn number(&self) -> Option<String> {
         let digits = self.touching()?;
         let letters = self.token.text;
-        let number = self.before?.sort == Sort::Number;
-        let word = matches!(self.token.sort, Sort::Name | Sort::Word);
-        if !number || !word {
+        if !matches!(self.token.sort, Sort::Name | Sort::Word) {
             return None;
         }
-        Some(format!(
-            "There is no `{digits}{letters}`: numbers are decimal digits alone."
-        ))
+        let alone = match self.before?.sort {
+            Sort::Number => "numbers are decimal digits alone",
+            Sort::Decimal => "a float is decimal digits and `.0` alone",
+            _ => return None,
+        };
+        Some(format!("There is no `{digits}{letters}`: {alone}."))
     }
 
     /// Something that is missing before the token.
@@ -168,7 +175,7 @@ impl Place<'_, '_> {
         if self.allowed.has(")") && (at_end || self.token.is(";") || self.token.is("{")) {
             return self.not_closed("(", ")");
         }
-        let starts = ["int", "bool", "if", "while", "scalar", "}"];
+        let starts = ["int", "bool", "float", "if", "while", "scalar", "}"];
         let starts = starts.iter().any(|word| self.token.is(word));
         let named = self.token.sort == Sort::Name;
         let statement = self.allowed.has("int");

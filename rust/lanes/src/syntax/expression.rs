@@ -28,6 +28,8 @@ pub struct Item<'t> {
 pub enum Part {
     /// A number.
     Number,
+    /// A constant of a float.
+    Decimal,
     /// `true` or `false`.
     Truth,
     /// `current_mask`.

@@ -9,6 +9,9 @@ use crate::source::Source;
 /// The most characters of an operand that are shown.
 const LONGEST: usize = 40;
 
+/// What to know of ints and floats that are no constants.
+pub const NO_CONVERSION: &str = "An int does not become a float, nor a float an int.";
+
 /// An operand as it stands in the text.
 fn operand(source: &Source, found: &Found) -> String {
     let shown = source.shown(found.span.clone());
@@ -40,23 +43,69 @@ fn lanes(length: usize) -> String {
     }
 }
 
-/// The operands are not of the kind that the operator takes, or not of one kind.
-pub fn operands(
-    source: &Source,
-    operator: Token,
-    taken: Option<Kind>,
-    found: &[Found],
-) -> Vec<String> {
-    let takes = match (taken, found.len()) {
-        (Some(Kind::Int), 1) => "an int",
-        (Some(_), 1) => "a bool",
-        (Some(_), _) => "two ints",
-        (None, _) => "two ints or two bools",
+/// The operands are not of a kind that the operator takes, or not of one kind.
+pub fn operands(source: &Source, operator: Token, taken: &[Kind], found: &[Found]) -> Vec<String> {
+    let takes = taken.iter().map(|kind| taken_as(*kind, found.len()));
+    let refused = |found: &&Found| !taken.contains(&found.of.kind);
+    let mut wrong: Vec<&Found> = found.iter().filter(refused).collect();
+    let mixed = wrong.is_empty();
+    if mixed {
+        wrong.extend(found);
+    }
+    let told: Vec<String> = wrong.iter().map(|found| what(source, found)).collect();
+    let (sign, takes) = (operator.text, either(takes.collect()));
+    let mut facts = vec![format!("`{sign}` takes {takes}; {}.", told.join(", and "))];
+    if let (true, [left, right]) = (mixed, found) {
+        facts.extend(converted(source, left, right));
+    }
+    facts
+}
+
+/// One of these, in words.
+fn either(mut words: Vec<String>) -> String {
+    match (words.pop(), words.is_empty()) {
+        (Some(last), false) => format!("{} or {last}", words.join(", ")),
+        (last, _) => last.unwrap_or_default(),
+    }
+}
+
+/// What an operator with so many operands takes, of this kind.
+fn taken_as(kind: Kind, operands: usize) -> String {
+    match (kind, operands) {
+        (Kind::Int, 1) => "an int".into(),
+        (kind, 1) => format!("a {kind}"),
+        (kind, _) => format!("two {kind}s"),
+    }
+}
+
+/// What to write where an int and a float meet; nothing of other kinds.
+fn converted(source: &Source, one: &Found, other: &Found) -> Option<String> {
+    let (int, float) = match (one.of.kind, other.of.kind) {
+        (Kind::Int, Kind::Float) => (one, other),
+        (Kind::Float, Kind::Int) => (other, one),
+        _ => return None,
     };
-    let wrong = found.iter().filter(|found| taken != Some(found.of.kind));
-    let wrong: Vec<String> = wrong.map(|found| what(source, found)).collect();
-    let sign = operator.text;
-    vec![format!("`{sign}` takes {takes}; {}.", wrong.join(", and "))]
+    let shown = |found: &Found| source.shown(found.span.clone());
+    if let Some(constant) = as_float(&shown(int)) {
+        return Some(format!("As a float it is written `{constant}`."));
+    }
+    if let Some(digits) = as_int(&shown(float)) {
+        return Some(format!("As an int it is written `{digits}`."));
+    }
+    Some(NO_CONVERSION.into())
+}
+
+/// The constant of a float for these digits, perhaps behind a minus, if there is one.
+fn as_float(digits: &str) -> Option<String> {
+    let constant = format!("{digits}.0");
+    let known = tokens::decimal(constant.trim_start_matches('-'));
+    known.map(|_| constant)
+}
+
+/// The digits of an int for this constant of a float, perhaps behind a minus.
+fn as_int(constant: &str) -> Option<&str> {
+    tokens::decimal(constant.trim_start_matches('-'))?;
+    constant.strip_suffix(".0")
 }
 
 /// The operands have different lengths.
@@ -75,10 +124,26 @@ pub fn stored_kind(source: &Source, name: Token, of: Type, found: &Found) -> Vec
     let name = name.text;
     let value = what(source, found);
     let mut facts = vec![format!("`{name}` is {}; its value {value}.", an(of))];
-    if of.kind == Kind::Bool {
-        facts.push("A bool is true, false, or a comparison such as `x != 0`.".into());
-    }
+    let shown = source.shown(found.span.clone());
+    let written = match (of.kind, found.of.kind) {
+        (Kind::Bool, kind) => Some(format!(
+            "A bool is true, false, or a comparison such as `x != {}`.",
+            zero(kind)
+        )),
+        (Kind::Float, Kind::Int) => as_float(&shown).map(|constant| format!("Write `{constant}`.")),
+        (Kind::Int, Kind::Float) => as_int(&shown).map(|digits| format!("Write `{digits}`.")),
+        _ => return facts,
+    };
+    facts.push(written.unwrap_or_else(|| NO_CONVERSION.into()));
     facts
+}
+
+/// The zero with which a value of this kind is compared.
+fn zero(kind: Kind) -> &'static str {
+    match kind {
+        Kind::Float => "0.0",
+        _ => "0",
+    }
 }
 
 /// The value has another length than its target.
@@ -137,7 +202,7 @@ pub fn condition(source: &Source, place: usize, found: &Found) -> Vec<String> {
     let value = what(source, found);
     vec![
         format!("`{word}` takes a bool; {value}."),
-        "Compare it, for example with `!= 0`.".into(),
+        format!("Compare it, for example with `!= {}`.", zero(found.of.kind)),
     ]
 }
 
@@ -187,14 +252,24 @@ pub fn unknown_name(typing: &Typing, name: Token, own: Option<Token>) -> Vec<Str
         let position = source.position(near.name.start);
         format!("Is `{}` meant, declared at {position}?", near.name.text)
     });
-    near.into_iter().collect()
+    let told = near.or_else(|| no_constant(name.text));
+    told.into_iter().collect()
+}
+
+/// What to know of a float that is no number, and has no constant.
+fn no_constant(name: &str) -> Option<String> {
+    let named = ["nan", "inf", "infinity"].contains(&name.to_ascii_lowercase().as_str());
+    named.then(|| "There is no constant for it: it is a sample, or is computed.".into())
 }
 
 /// Where a later declaration of this name stands.
 fn declared_later(source: &Source, name: Token) -> Option<usize> {
     let tokens = tokens::tokens(&source.text).ok()?;
     let mut pairs = tokens.windows(2);
-    let declares = |before: &Token| ["int", "bool", "]"].iter().any(|word| before.is(word));
+    let declares = |before: &Token| {
+        let words = ["int", "bool", "float", "]"];
+        words.iter().any(|word| before.is(word))
+    };
     let later = pairs
         .find(|pair| pair[1].start > name.start && pair[1].text == name.text && declares(&pair[0]));
     later.map(|pair| pair[1].start)

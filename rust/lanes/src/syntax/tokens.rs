@@ -6,8 +6,11 @@ use std::ops::Range;
 /// The most bytes of a name.
 const LONGEST_NAME: usize = 31;
 
+/// The largest whole number of a float's constant.
+const LARGEST_WHOLE: i32 = 16_777_216;
+
 /// The words that are no names.
-pub const RESERVED: [&str; 10] = [
+pub const RESERVED: [&str; 11] = [
     "int",
     "bool",
     "block",
@@ -18,6 +21,7 @@ pub const RESERVED: [&str; 10] = [
     "current_mask",
     "true",
     "false",
+    "float",
 ];
 
 /// The signs, longer ones first.
@@ -33,6 +37,8 @@ pub enum Sort {
     Name,
     /// A number.
     Number,
+    /// A constant of a float: a whole number and `.0`.
+    Decimal,
     /// A reserved word.
     Word,
     /// A sign.
@@ -105,12 +111,22 @@ fn run(bytes: &[u8], test: impl Fn(u8) -> bool) -> usize {
 /// How many bytes of a word or a number stand here; none for any other byte.
 fn length(bytes: &[u8]) -> (Sort, usize) {
     match bytes[0] {
-        b'0'..=b'9' => (Sort::Number, run(bytes, |byte| byte.is_ascii_digit())),
+        b'0'..=b'9' => digits(bytes),
         b'_' | b'a'..=b'z' | b'A'..=b'Z' => {
             let in_name = |byte: u8| byte == b'_' || byte.is_ascii_alphanumeric();
             (Sort::Name, run(bytes, in_name))
         }
         _ => (Sort::Sign, 0),
+    }
+}
+
+/// How many bytes of a number stand here; with a dot behind its digits it is a float's.
+fn digits(bytes: &[u8]) -> (Sort, usize) {
+    let digits = |bytes: &[u8]| run(bytes, |byte| byte.is_ascii_digit());
+    let whole = digits(bytes);
+    match bytes.get(whole) {
+        Some(b'.') => (Sort::Decimal, whole + 1 + digits(&bytes[whole + 1..])),
+        _ => (Sort::Number, whole),
     }
 }
 
@@ -121,6 +137,7 @@ fn token(text: &[u8], start: usize) -> Option<Token<'_>> {
     let word = std::str::from_utf8(&rest[..length]).unwrap_or_default();
     let (sort, text) = match sort {
         Sort::Number if number(word).is_some() => (Sort::Number, word),
+        Sort::Decimal if decimal(word).is_some() => (Sort::Decimal, word),
         Sort::Name if RESERVED.contains(&word) => (Sort::Word, word),
         Sort::Name if length <= LONGEST_NAME => (Sort::Name, word),
         Sort::Sign => {
@@ -138,6 +155,13 @@ fn token(text: &[u8], start: usize) -> Option<Token<'_>> {
 pub fn number(digits: &str) -> Option<i32> {
     let spare_zero = digits.len() > 1 && digits.starts_with('0');
     digits.parse().ok().filter(|_| !spare_zero)
+}
+
+/// The value of a float's constant, if it is allowed.
+pub fn decimal(word: &str) -> Option<f32> {
+    let whole = number(word.strip_suffix(".0")?)?;
+    // Up to here every whole number is a float.
+    (whole <= LARGEST_WHOLE).then_some(whole as f32)
 }
 
 /// Where the token or character that stands at this place stands, also where it is no token.
@@ -194,9 +218,32 @@ mod tests {
             (b"a \xff\xff", 2, 2..3),
             (b"a >= b", 2, 2..4),
             (b"a", 1, 1..1),
+            (b"x = 1.5;", 4, 4..7),
+            (b"x = 1.;", 4, 4..6),
+            (b"x = 1 .5;", 6, 6..7),
         ] {
             assert_eq!(span_at(text, place), span);
         }
-        assert_eq!(tokens(b"x = 1.5;").unwrap_err().place, 5);
+        assert_eq!(tokens(b"x = 1.5;").unwrap_err().place, 4);
+        assert_eq!(tokens(b"x = 1 .5;").unwrap_err().place, 6);
+    }
+
+    #[test]
+    fn floats_are_whole_numbers_and_a_zero() {
+        for (word, value) in [("0.0", 0.0), ("10.0", 10.0), ("16777216.0", 16_777_216.0)] {
+            assert_eq!(decimal(word), Some(value));
+        }
+        for word in [
+            "1.",
+            "1.5",
+            "1.00",
+            "01.0",
+            "16777217.0",
+            "99999999999.0",
+            "1",
+            ".0",
+        ] {
+            assert_eq!(decimal(word), None, "{word}");
+        }
     }
 }

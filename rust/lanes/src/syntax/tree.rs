@@ -135,6 +135,7 @@ impl<'t> Reader<'_, 't> {
             (Sort::Sign, "{") => self.braces()?,
             (Sort::Word, "int") => self.declaration(Kind::Int)?,
             (Sort::Word, "bool") => self.declaration(Kind::Bool)?,
+            (Sort::Word, "float") => self.declaration(Kind::Float)?,
             (Sort::Name, _) => self.assignment()?,
             (Sort::Word, "if") => self.choice()?,
             (Sort::Word, "while") => self.repetition()?,
@@ -283,6 +284,7 @@ impl<'t> Reader<'_, 't> {
             }
             (Sort::Sign, "(") => return self.parenthesised(),
             (Sort::Number, _) => Part::Number,
+            (Sort::Decimal, _) => Part::Decimal,
             (Sort::Name, _) => Part::Name,
             (Sort::Word, "true" | "false") => Part::Truth,
             (Sort::Word, "current_mask") => Part::CurrentMask,
@@ -308,7 +310,7 @@ impl<'t> Reader<'_, 't> {
 fn starts_statement(token: Token) -> bool {
     match token.sort {
         Sort::Name => true,
-        Sort::Word => ["int", "bool", "if", "while", "scalar"].contains(&token.text),
+        Sort::Word => ["int", "bool", "float", "if", "while", "scalar"].contains(&token.text),
         Sort::Sign => [";", "{"].contains(&token.text),
         _ => false,
     }

@@ -344,6 +344,7 @@ impl<'t> Typing<'_, 't> {
     fn item(&mut self, item: &Item<'t>, context: Context, own: Option<Token>) -> Typed<Type> {
         let (kind, length) = match item.part {
             Part::Number => (Kind::Int, 1),
+            Part::Decimal => (Kind::Float, 1),
             Part::Truth => (Kind::Bool, 1),
             Part::CurrentMask => (Kind::Bool, context.length),
             Part::Name => {
@@ -352,12 +353,13 @@ impl<'t> Typing<'_, 't> {
             }
             Part::Unary => {
                 let operand = self.operand();
-                let taken = match item.token.text {
-                    "!" => Kind::Bool,
-                    _ => Kind::Int,
+                let taken: &[Kind] = match item.token.text {
+                    "!" => &[Kind::Bool],
+                    "~" => &[Kind::Int],
+                    _ => &[Kind::Int, Kind::Float],
                 };
-                if operand.of.kind != taken {
-                    let facts = facts::operands(self.source, item.token, Some(taken), &[operand]);
+                if !taken.contains(&operand.of.kind) {
+                    let facts = facts::operands(self.source, item.token, taken, &[operand]);
                     return refuse(8, item.token.start, facts);
                 }
                 return Ok(operand.of);
@@ -372,11 +374,12 @@ impl<'t> Typing<'_, 't> {
         let right = self.operand();
         let left = self.operand();
         let (a, b) = (left.of, right.of);
-        let taken = match operator.text {
-            "|" | "^" | "&" | "==" | "!=" => None,
-            _ => Some(Kind::Int),
+        let taken: &[Kind] = match operator.text {
+            "|" | "^" | "&" => &[Kind::Int, Kind::Bool],
+            "==" | "!=" => &[Kind::Int, Kind::Bool, Kind::Float],
+            _ => &[Kind::Int, Kind::Float],
         };
-        if a.kind != b.kind || taken.map_or(false, |taken| a.kind != taken) {
+        if a.kind != b.kind || !taken.contains(&a.kind) {
             let facts = facts::operands(self.source, operator, taken, &[left, right]);
             return refuse(8, operator.start, facts);
         }

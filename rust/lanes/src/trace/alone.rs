@@ -106,7 +106,8 @@ impl Alone {
             let here = &left.memory[full.lane(lane.min(full.length - 1))];
             let there = &own.memory[single.range()];
             if here != there {
-                let (here, there) = (values::shown(here), values::shown(there));
+                let shown = |bytes: &[u8]| values::shown(full.kind, bytes);
+                let (here, there) = (shown(here), shown(there));
                 differs.push(format!("`{}` is {there} and not {here}", full.name));
             }
         }

@@ -2,7 +2,7 @@
 
 use crate::escape;
 use crate::json::{self, Object};
-use crate::routine::Routine;
+use crate::routine::{Kind, Routine, Variable};
 use crate::steps::{Step, Steps, Subject};
 use crate::values;
 use ruihmento::Answer;
@@ -104,10 +104,19 @@ fn text(steps: &Steps) -> String {
     out + &bytes(&text[at..])
 }
 
+/// A lane's value: a float as a text, so that the page shows it as it is shown here.
+fn value(variable: &Variable, bytes: &[u8]) -> String {
+    let shown = values::shown(variable.kind, bytes);
+    match variable.kind {
+        Kind::Float => json::string(&shown),
+        _ => shown,
+    }
+}
+
 /// The variables with their values at the start.
 fn variables(routine: &Routine, memory: &[u8]) -> Vec<String> {
     let variables = routine.variables.iter().map(|variable| {
-        let lanes = values::lanes(variable, memory).map(values::shown);
+        let lanes = values::lanes(variable, memory).map(|bytes| value(variable, bytes));
         let object = Object::new()
             .with_text("name", &variable.name)
             .with_text("kind", &variable.kind.to_string())
@@ -133,8 +142,8 @@ fn step(routine: &Routine, step: &Step) -> String {
             let lanes = 0..routine.variables[*variable].length;
             let written = lanes.filter(|lane| step.writes(routine, *variable, *lane));
             let values = written.map(|lane| {
-                let bytes = routine.variables[*variable].lane(lane);
-                let value = values::shown(&step.after[bytes]);
+                let variable = &routine.variables[*variable];
+                let value = value(variable, &step.after[variable.lane(lane)]);
                 format!("[{lane},{value}]")
             });
             object

@@ -33,14 +33,15 @@ pub fn writes(routine: &Routine, step: &Step) -> Vec<String> {
     };
     let variable = &routine.variables[target];
     let lanes = (0..variable.length).filter(|lane| step.writes(routine, target, *lane));
+    let value = |bytes: &[u8]| values::json(variable.kind, bytes);
     let objects = lanes.map(|lane| {
         let bytes = variable.lane(lane);
         let object = Object::new()
             .with_text("name", &variable.name)
             .with("lane", lane)
             .with("address", bytes.start)
-            .with("before", values::json(&step.before[bytes.clone()]))
-            .with("after", values::json(&step.after[bytes]));
+            .with("before", value(&step.before[bytes.clone()]))
+            .with("after", value(&step.after[bytes]));
         object.json()
     });
     objects.collect()

@@ -401,13 +401,14 @@ pub fn cells(routine: &Routine, step: &Step) -> Vec<String> {
 
 /// One lane's value after the step, and a sign where it was written.
 fn value_cell(routine: &Routine, variable: usize, lane: usize, step: &Step) -> String {
-    let bytes = routine.variables[variable].lane(lane);
+    let of = &routine.variables[variable];
+    let (before, after) = (&step.before[of.lane(lane)], &step.after[of.lane(lane)]);
     let sign = match step.writes(routine, variable, lane) {
-        true if step.before[bytes.clone()] == step.after[bytes.clone()] => '=',
+        true if before == after => '=',
         true => '*',
         false => ' ',
     };
-    format!("{}{sign}", values::shown(&step.after[bytes]))
+    format!("{}{sign}", values::shown(of.kind, after))
 }
 
 /// All lanes of a variable after the step.
