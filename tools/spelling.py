@@ -22,7 +22,16 @@ RULES = {
     "DUE": "e_due", "IF-DUE": "e_if_due", "SEQUENCE-DUE": "e_sequence_due", "TEST-DUE": "e_test_due", "BODY-DUE": "e_body_due",
     "LEAVE": "e_leave", "AGAIN": "e_again", "LAY-NONE": "lay_none", "LAY-NEXT": "lay_next",
 }
-BY_HAND = {"one_of_lem": "one_of", "◌one-of◌": "◌one_of◌", "Too-deep": "IsTooDeep", "nan-bits": "nan_pattern_bits"}
+BY_HAND = {
+    "fits-step": "fits_step", "no-other-lane": "no_other_lane", "six-words": "six_words", "step-costs": "step_costs", "lane-bit": "lane_bit",
+    "value-fits": "value_fits", "whole-units": "whole_units",
+    "Goes_on": "GoesOn", "getD-inside": "get_or_inside", "getD-load": "get_or-load",
+    "getD-zipWith": "get_or-zip_with", "length-zipWith": "length-zip_with", "one_of_lem": "one_of",
+    "◌one-of◌": "◌one_of◌", "◌takes-two◌gives◌": "◌takes_two◌gives◌", "Too-deep": "IsTooDeep",
+    "nan-bits": "nan_pattern_bits",
+}
+# The choice that does not compute what it leaves is not the library's, and the operator `!` is not its `not`.
+CHOICE = {"if": "when", "if◌then◌else◌": "when◌then◌else◌"}
 # Names of the kit that a name of the repository now falls together with, by file.
 APART = {"crates/floats/proofs/Patterns.antt": {"is_nan": "ieee_is_nan"}}
 
@@ -148,6 +157,7 @@ def main(commit):
             print(f"look: {old} and {back[new]} -> {new}")
         back[new] = old
     for path, text in texts.items():
+        # A rule's name is one in the crate of the rules alone: elsewhere it is a constant of the code.
         mark = mark_of(path)
         landed = landed_text(commit, path)
         old = [piece for is_code, piece in parts(landed, mark) if not is_code] if landed is not None else []
@@ -156,8 +166,21 @@ def main(commit):
         if len(old) != len(now):
             print(f"look: {path}: {len(old)} comments and texts, now {len(now)}")
             old = now
-        spell = lambda match: turn.get(match.group(), match.group())
-        quoted = lambda match: TOKEN.sub(spell, match.group())
+        is_proof = path.endswith(".antt")
+        has_not = is_proof and "Not as not" in text
+
+        def spell(match):
+            token = match.group()
+            if is_proof and token in CHOICE:
+                return CHOICE[token]
+            if has_not and token == "not" and match.string[: match.start()][-1:] != ".":
+                return "unary_not"
+            if token in RULES and not path.startswith("crates/rules/"):
+                return token
+            return turn.get(token, token)
+
+        # In a comment the words of the definitions' own language stay.
+        quoted = lambda match: TOKEN.sub(lambda word: turn.get(word.group(), word.group()), match.group())
         out, at = [], 0
         for is_code, piece in pieces:
             if is_code:
@@ -172,8 +195,6 @@ def main(commit):
         new = "".join(out)
         if new != text:
             open(path, "w", encoding="utf-8").write(new)
-    with open("/tmp/spelling.tsv", "w") as table:
-        table.writelines(f"{old}\t{new}\n" for old, new in sorted(turn.items()))
 
 
 if __name__ == "__main__":
