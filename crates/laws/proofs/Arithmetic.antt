@@ -13,7 +13,7 @@ use borrow.Author.Tests.{eqb-true, eqb-false}
 use Rattle.meaning.specs.declared.Kind.{Kind}
 use Rattle.meaning.specs.declared.Kind.TheVariants.{Int as int, Bool as bool, Float as float}
 use Rattle.meaning.specs.declared.Unary.{Unary}
-use Rattle.meaning.specs.declared.Unary.TheVariants.{Neg as neg, Inv as inv, Not as not}
+use Rattle.meaning.specs.declared.Unary.TheVariants.{Neg as neg, Inv as inv, Not as unary_not}
 use Rattle.meaning.specs.declared.Binary.{Binary}
 use Rattle.meaning.specs.declared.Binary.TheVariants.{Or as or, Xor as xor, And as and, Eq as eq, Ne as ne, Lt as lt, Gt as gt, Le as le, Ge as ge, Add as add, Sub as sub, Mul as mul}
 use Rattle.meaning.specs.Codes.{ok}
@@ -59,13 +59,13 @@ pub one_lane : (k : Kind) (o : Unary) (a : ℕ) → k one_of (unary_table o).1 �
 unfolding unary_table ◌one_of◌ same_kind kind_number unary_of word_unary float_unary lane_bits bit truth
 one_lane int neg a t h = negative (negative_kept a h)
 one_lane int inv a t h = complement (complement_bits a h)
-one_lane int not a t h = absurd (false≢true t)
+one_lane int unary_not a t h = absurd (false≢true t)
 one_lane bool neg a t h = absurd (false≢true t)
 one_lane bool inv a t h = absurd (false≢true t)
-one_lane bool not a t h = opposite (by_bit (λ a. 1 - a ≡ bit (B.not (truth a))) refl refl a h)
+one_lane bool unary_not a t h = opposite (by_bit (λ a. 1 - a ≡ bit (B.not (truth a))) refl refl a h)
 one_lane float neg a t h = negated_single refl
 one_lane float inv a t h = absurd (false≢true t)
-one_lane float not a t h = absurd (false≢true t)
+one_lane float unary_not a t h = absurd (false≢true t)
 
 -- A truth as a lane says that it is one.
 plain_says : (b : Bool) → Says (b ≡ true) (bit b)

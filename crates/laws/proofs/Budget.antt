@@ -5,7 +5,7 @@ use mathlib.Core.List.{[], ◌∷◌}
 use Prim.Native.Nat.{ℕ, zero, suc, ◌+◌, ◌≤◌}
 use native.Mathlib.Nat.{suc-add}
 use native.Mathlib.Omega.{arith}
-use Rattle.meaning.specs.Codes.{if◌then◌else◌}
+use Rattle.meaning.specs.Codes.{when◌then◌else◌}
 use Rattle.meaning.specs.Program.{Code, Program, nothing, step, put, both, choice, cycle, alone}
 use Rattle.meaning.specs.Memory.{Value, Mask, truth}
 use Rattle.meaning.specs.Running.{Event, passes, stores, Ran, stopped, done, Run, and_then, costs, some_lane, mask_and, mask_and_not, unless_empty, branches, while_left, loop, evaluating, testing, run}
@@ -29,7 +29,7 @@ module _ {S : Type 0} (d : ℕ) where
   same_costs p r r' h m zero σ = tt
   same_costs p r r' h m (suc b) σ = rw (suc-add b d) (h m b σ)
 
-  same_if : (g : Bool) (r q r' q' : Run S) → Same r r' → Same q q' → Same (λ m b σ. if g then (λ _. r m b σ) else λ _. q m b σ) (λ m b σ. if g then (λ _. r' m b σ) else λ _. q' m b σ)
+  same_if : (g : Bool) (r q r' q' : Run S) → Same r r' → Same q q' → Same (λ m b σ. when g then (λ _. r m b σ) else λ _. q m b σ) (λ m b σ. when g then (λ _. r' m b σ) else λ _. q' m b σ)
   same_if true r q r' q' h k = h
   same_if false r q r' q' h k = k
 

@@ -214,7 +214,7 @@ pub alike_need : {Γ Δ : Declarations} → Alike Γ Δ → need Δ ≡ need Γ
 unfolding need shut
 alike_need none_yet = refl
 alike_need (both_more s none_yet) = ap end_of s
-alike_need (both_more _ (both_more s a)) = alike_need (both_more s a)
+alike_need (both_more _ (both_more {d = d} {e = e} s a)) = alike_need (both_more {d = d} {e = e} s a)
 
 pub alike_declared : {Γ Δ : Declarations} (x : ℕ) → Alike Γ Δ → shut (declared Δ x) ≡ shut (declared Γ x)
 unfolding declared

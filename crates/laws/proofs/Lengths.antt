@@ -12,7 +12,7 @@ use Rattle.meaning.specs.Memory.{Declarations}
 use Rattle.meaning.specs.Typing.{match, joined, fits, width}
 use Rattle.laws.specs.Sound.{Numbers, of_constant, of_variable, of_the_mask, of_one, of_two}
 use Rattle.laws.specs.Declarations.{Grows}
-use Rattle.laws.specs.Lengths.{Spreadable, single, full, Match, equal, left, right, Suits, one_lane, same, anywhere, Matched, matched_constant, matched_variable, matched_mask, matched_one, matched_two, Kinded, kinded_number, kinded_float, kinded_truth, kinded_variable, kinded_mask, kinded_one, kinded_two, TypedAs, Fits, fits_nothing, fits-step, fits_put, fits_both, fits_choice, fits_cycle, fits_alone}
+use Rattle.laws.specs.Lengths.{Spreadable, single, full, Match, equal, left, right, Suits, one_lane, same, anywhere, Matched, matched_constant, matched_variable, matched_mask, matched_one, matched_two, Kinded, kinded_number, kinded_float, kinded_truth, kinded_variable, kinded_mask, kinded_one, kinded_two, TypedAs, Fits, fits_nothing, fits_step, fits_put, fits_both, fits_choice, fits_cycle, fits_alone}
 use Rattle.laws.proofs.Tests.{or_cases, by_if}
 
 -- The tests of typing as facts.
@@ -125,7 +125,7 @@ module _ {Γ Δ : Declarations} (g : Grows Γ Δ) where
 
   pub fits_grows : {C : ℕ} {P : Program} → Fits Γ C P → Fits Δ C P
   fits_grows fits_nothing = fits_nothing
-  fits_grows fits-step = fits-step
+  fits_grows fits_step = fits_step
   fits_grows {C} (fits_put {x = x} {e = e} l t m v) =
       fits_put {C = C} {x = x} {e = e} (omega (arith, g.longer)) (rw (g.kinds x l) (typed_grows t)) (rw (g.lanes x l) m) (rw (g.lanes x l, width_grows t.matched) v)
   fits_grows (fits_both s t) = fits_both (fits_grows s) (fits_grows t)

@@ -7,10 +7,10 @@ use lib.ListN.{length, get_or, take, drop, replicate}
 use Rattle.laws.specs.Values.{All, no_more, and_one}
 
 -- An element of a list, whatever stands past its end.
-pub getD_inside : {A : Type 0} (l : List A) (i : ℕ) (d e : A) → i < length l → get_or l i d ≡ get_or l i e
-getD_inside [] i d e h = absurd (omega arith)
-getD_inside (x ∷ l) zero d e h = refl
-getD_inside (x ∷ l) (suc i) d e h = getD_inside l i d e (omega arith)
+pub get_or_inside : {A : Type 0} (l : List A) (i : ℕ) (d e : A) → i < length l → get_or l i d ≡ get_or l i e
+get_or_inside [] i d e h = absurd (omega arith)
+get_or_inside (x ∷ l) zero d e h = refl
+get_or_inside (x ∷ l) (suc i) d e h = get_or_inside l i d e (omega arith)
 
 module _ {A : Type 0} {P : A → Type 0} where
   pub all_at : {l : List A} → All P l → (i : ℕ) (d : A) → i < length l → P (get_or l i d)
@@ -25,12 +25,12 @@ module _ {A : Type 0} {P : A → Type 0} where
   pub all_take : {l : List A} (n : ℕ) → All P l → All P (take n l)
   all_take zero a = no_more
   all_take (suc n) no_more = no_more
-  all_take (suc n) (and_one p a) = and_one p (all_take n a)
+  all_take (suc n) (and_one {x = x} {l = l} p a) = and_one p (all_take {l = l} n a)
 
   pub all_drop : {l : List A} (n : ℕ) → All P l → All P (drop n l)
   all_drop zero a = a
   all_drop (suc n) no_more = no_more
-  all_drop (suc n) (and_one p a) = all_drop n a
+  all_drop (suc n) (and_one {x = x} {l = l} p a) = all_drop {l = l} n a
 
   pub all_append : {l r : List A} → All P l → All P r → All P (l ++ r)
   all_append no_more b = b

@@ -12,7 +12,7 @@ use lib.ListN.{length}
 use borrow.Author.Tests.{eqb-true}
 use Rattle.meaning.specs.declared.Kind.{Kind}
 use Rattle.meaning.specs.declared.Refusal.TheVariants.{NotAllowed}
-use Rattle.meaning.specs.Codes.{Out, after, give, refuse, option, lookup, if◌then◌else◌, ◌among◌, nesting_limit}
+use Rattle.meaning.specs.Codes.{Out, after, give, refuse, option, lookup, when◌then◌else◌, ◌among◌, nesting_limit}
 use Rattle.meaning.specs.Tokens.{Token, the}
 use Rattle.meaning.specs.Tree.{kinds, Stmt, Stmts, none_yet, ◌⨾◌}
 use Rattle.meaning.specs.Reading.{Reads, After, ◌⇒◌, look, next, choose, expect, as_long, no_room, declaration, assignment, opening, another, sequence, statement_over, statement, read, begins}
@@ -64,7 +64,7 @@ module _ (text : List ℕ) (ts : List Token) (spelled : AllIn text 0 ts) where
     picks [] none_left = refusal tt
     picks ((k, f) ∷ l) (case h c) = go (eqb (here at).is k) refl (picks l c)
       where
-        go : (b : Bool) → eqb (here at).is k ≡ b → Picks (lookup (eqb (here at).is) l) → Picks (if b then (λ _. some f) else λ _. lookup (eqb (here at).is) l)
+        go : (b : Bool) → eqb (here at).is k ≡ b → Picks (lookup (eqb (here at).is) l) → Picks (when b then (λ _. some f) else λ _. lookup (eqb (here at).is) l)
         go true e r = h (eqb-true _ _ e)
         go false e r = r
 
@@ -121,7 +121,7 @@ module _ (text : List ℕ) (ts : List Token) (spelled : AllIn text 0 ts) where
       (λ l q h. followed _ (expected close q) (λ _ s e. well {s = s} (all_wider (le_refl p) (omega (arith, e.on)) h)))
     where
       go : (l : Stmts) (q : ℕ) → AllRise ts p q l → (b : Bool)
-          → Yields (λ o s. AllRise ts p s (option l (λ a. a) o)) (if◌then◌else◌ {A = Reads (Option Stmts)} b (λ _. give none) (λ _ s. after (m s) (λ a. give (some (l ⨾ a)))) q)
+          → Yields (λ o s. AllRise ts p s (option l (λ a. a) o)) (when◌then◌else◌ {A = Reads (Option Stmts)} b (λ _. give none) (λ _ s. after (m s) (λ a. give (some (l ⨾ a)))) q)
       go l q h true = well {s = q} h
       go l q h false = followed _ (g q) (λ a s k. well {s = s} (rises_more h k))
 

@@ -14,7 +14,7 @@ use Rattle.meaning.specs.declared.Kind.{Kind}
 use Rattle.meaning.specs.declared.Kind.TheVariants.{Bool as bool}
 use Rattle.meaning.specs.declared.Refusal.TheVariants.{UnknownName, AlreadyOpen, LengthNotListed, WrongKind, WrongLength, LengthOneTarget, TooManyDeclarations}
 use Rattle.meaning.specs.Codes.{Out, ok, after, give, refuse, option, check, ◌among◌, declaration_limit, lengths}
-use Rattle.meaning.specs.Tokens.{Token, end_at, the, tokens}
+use Rattle.meaning.specs.Tokens.{Token, end_at, the}
 use Rattle.meaning.specs.Tree.{Name, same_kind, ◌one_of◌, table, unary_table, Expr, number, float_number, boolean, name, current_mask, unary, binary, Block, Stmt, empty, braces, declare, assign, if_else, while, scalar, Stmts, none_yet, ◌⨾◌}
 use Rattle.meaning.specs.Reading.{read}
 use Rattle.meaning.specs.Program.{Program}

@@ -10,7 +10,7 @@ use lib.Dec.{eqb, leb}
 use lib.ListN.{length, get_or, take, drop, length-take, length-drop}
 use lib.Seq.{length-take-le}
 use borrow.Author.Tests.{leb-true, eqb-true}
-use Rattle.meaning.specs.Codes.{if◌then◌else◌, option, lookup, name_limit, number_limit, float_limit}
+use Rattle.meaning.specs.Codes.{when◌then◌else◌, option, lookup, name_limit, number_limit, float_limit}
 use Rattle.meaning.specs.Tokens.{Piece, over, bad, gap, token, the, bytes, equal, reserved, signs, numbered, words, marks, space, digit, letter, letter_or_digit, in_line, run_of, starts, decimal, good_number, word, digits, constant, numeral, sign, piece}
 use Rattle.laws.proofs.Tests.{and_l, and_r, by_if}
 use Rattle.laws.proofs.Bytes.{run_within, run_length, run_some}
@@ -103,7 +103,7 @@ module _ (s : List ℕ) (n : ℕ) (lt : 0 < n) (le : n ≤ length s) where
   fair_word = go (length-take-le n s le) (found (take n s) words) refl
     where
       go : length (take n s) ≡ n → (o : Option ℕ) → found (take n s) words ≡ o
-          → Fair s (option (if leb (length (take n s)) name_limit then (λ _. token (the "name") 0 (take n s) (length (take n s))) else λ _. bad) (λ k. token k 0 [] (length (take n s))) o)
+          → Fair s (option (when leb (length (take n s)) name_limit then (λ _. token (the "name") 0 (take n s) (length (take n s))) else λ _. bad) (λ k. token k 0 [] (length (take n s))) o)
       go is none h =
           by_if (Fair s) (leb (length (take n s)) name_limit) _ _
           (λ _. rw is (taken (record {

@@ -13,9 +13,9 @@ use borrow.Author.Tests.{eqb-true}
 use Rattle.meaning.specs.declared.Kind.{Kind}
 use Rattle.meaning.specs.declared.Refusal.TheVariants.{NotAllowed, TooDeep}
 use Rattle.meaning.specs.declared.Unary.{Unary}
-use Rattle.meaning.specs.declared.Unary.TheVariants.{Neg as neg, Inv as inv, Not as not}
+use Rattle.meaning.specs.declared.Unary.TheVariants.{Neg as neg, Inv as inv, Not as unary_not}
 use Rattle.meaning.specs.declared.Binary.{Binary}
-use Rattle.meaning.specs.Codes.{Out, ok, after, give, refuse, option, lookup, if◌then◌else◌, ◌among◌, number_limit, nesting_limit, the_judge_gives, only_a_run_gives}
+use Rattle.meaning.specs.Codes.{Out, ok, after, give, refuse, option, lookup, when◌then◌else◌, ◌among◌, number_limit, nesting_limit, the_judge_gives, only_a_run_gives}
 use Rattle.meaning.specs.Tokens.{Token, end_at, the}
 use Rattle.meaning.specs.Tree.{kinds, levels, Expr, unary, binary, Block, Stmt, braces, if_else, while, scalar, Stmts, none_yet, ◌⨾◌}
 use Rattle.meaning.specs.Reading.{Reads, After, ◌⇒◌, operator, look, next, choose, expect, as_long, more, binaries, operand, no_room, closed, unaries, expression, parenthesised, block, declaration, assignment, condition, opening, another, sequence, statement_over, statement, read, begins}
@@ -87,7 +87,7 @@ module _ (text : List ℕ) (ts : List Token) (spelled : AllIn text 0 ts) where
     chosen [] none_left = refusal (not_allowed _ (spelled_place at spelled))
     chosen ((k, f) ∷ l) (case h c) = go (eqb (here at).is k) refl (chosen l c)
       where
-        go : (b : Bool) → eqb (here at).is k ≡ b → Picks (lookup (eqb (here at).is) l) → Picks (if b then (λ _. some f) else λ _. lookup (eqb (here at).is) l)
+        go : (b : Bool) → eqb (here at).is k ≡ b → Picks (lookup (eqb (here at).is) l) → Picks (when b then (λ _. some f) else λ _. lookup (eqb (here at).is) l)
         go true e r = h (here at) (seen_at at k (eqb-true _ _ e))
         go false e r = r
 
@@ -172,7 +172,7 @@ module _ (text : List ℕ) (ts : List Token) (spelled : AllIn text 0 ts) where
       at = λ at. choose_goes (Fit n) at _
           (case (λ t s. negated neg at t s.near)
           (case (λ t s. negated inv at t s.near)
-          (case (λ t s. negated not at t s.near)
+          (case (λ t s. negated unary_not at t s.near)
           (case (λ t s. leaf _ (of_number (s.small refl)) refl at)
           (case (λ t s. leaf _ (of_float (s.float refl)) refl at)
           (case (λ t s. leaf _ of_boolean refl at)
@@ -217,7 +217,7 @@ module _ (text : List ℕ) (ts : List Token) (spelled : AllIn text 0 ts) where
   block_goes p l = go (eqb (here p).is (the "block"))
     where
       go : (b : Bool) → Goes (Placed text) p
-          (if◌then◌else◌ {A = Reads Block} b
+          (when◌then◌else◌ {A = Reads Block} b
           (λ _ s. after (expect ts "[" (suc s)) (λ _ s. after (expect ts "number" s) (λ n s. after (expect ts "]" s) (λ _. give (some (n.value, n.place))))))
           (λ _. give none) p)
       go true =
@@ -265,7 +265,7 @@ module _ (text : List ℕ) (ts : List Token) (spelled : AllIn text 0 ts) where
     where
       go : (p : ℕ) (l : Stmts) (q : ℕ) → Later (AllWalkable text r) p l q → (b : Bool)
           → Ends (λ o s. Later (AllWalkable text r) p (option l (λ a. a) o) s) (RefusedIn text)
-          (if◌then◌else◌ {A = Reads (Option Stmts)} b (λ _. give none) (λ _ s. after (m s) (λ a. give (some (l ⨾ a)))) q)
+          (when◌then◌else◌ {A = Reads (Option Stmts)} b (λ _. give none) (λ _ s. after (m s) (λ a. give (some (l ⨾ a)))) q)
       go p l q h true = well h
       go p l q h false = followed _ (g.at q) (λ a s k. well {s = s} (omega (arith, h.0, k.0), of_more h.1 k.1))
 

@@ -6,13 +6,13 @@ use mathlib.Core.Bool.{Bool, true, false}
 use mathlib.Core.List.{[], ◌∷◌}
 use native.Mathlib.Omega.{arith}
 use lib.ListN.{length}
-use Rattle.meaning.specs.Codes.{if◌then◌else◌}
+use Rattle.meaning.specs.Codes.{when◌then◌else◌}
 use Rattle.meaning.specs.Memory.{Value, Mask, Declarations, truth}
 use Rattle.meaning.specs.Program.{Code, Program}
 use Rattle.meaning.specs.Typing.{joined, width}
 use Rattle.meaning.specs.Running as R
 use Rattle.meaning.specs.Running.{Event, passes, stores, Ran, stopped, done, Run, and_then, costs, some_lane, mask_and, mask_and_not, unless_empty, branches, while_left, loop, evaluating, testing, storing}
-use Rattle.laws.specs.Lengths.{Spreadable, Suits, Matched, Fits, fits_nothing, fits-step, fits_put, fits_both, fits_choice, fits_cycle, fits_alone}
+use Rattle.laws.specs.Lengths.{Spreadable, Suits, Matched, Fits, fits_nothing, fits_step, fits_put, fits_both, fits_choice, fits_cycle, fits_alone}
 use Rattle.laws.specs.Near.{NearProgram, near_nothing, near_step, near_put, near_both, near_choice, near_cycle, near_alone, Stops, near_done, near_spent, Does, does_pass, does_store}
 use Rattle.laws.proofs.Lengths.{joined_many, matched_suits, mask_spreads, suits_body, joined_body}
 use Rattle.laws.proofs.Values.{length-mask_and, length-mask_and_not}
@@ -34,15 +34,15 @@ module _ {S : Type 0} (I : S → Type 0) (N : ℕ) where
   after_that b (done σ b') k (near_done l i) h = more_left l (h b' σ l i)
   after_that b (stopped c p σ left) k (near_spent l i) h = near_spent l i
 
-  step-costs : (C most p : ℕ) (r : Run S) → p ≤ N → Halts C most r → Halts C (suc most) (costs p r)
+  step_costs : (C most p : ℕ) (r : Run S) → p ≤ N → Halts C most r → Halts C (suc most) (costs p r)
   unfolding costs
-  step-costs C most p r l h = record { from = go }
+  step_costs C most p r l h = record { from = go }
     where
       go : (m : Mask) (b : ℕ) (σ : S) → length m ≡ C → b ≤ suc most → I σ → Stops I N b (costs p r m b σ)
       go m zero σ z g i = near_spent l i
       go m (suc b) σ z g i = more_left (omega arith) (h.from m b σ z (omega arith) i)
 
-  chosen : (b : ℕ) (t : Bool) (x y : Unit {0} → Ran S) → Stops I N b (x tt) → Stops I N b (y tt) → Stops I N b (if t then x else y)
+  chosen : (b : ℕ) (t : Bool) (x y : Unit {0} → Ran S) → Stops I N b (x tt) → Stops I N b (y tt) → Stops I N b (when t then x else y)
   chosen b true x y h g = h
   chosen b false x y h g = g
 
@@ -107,7 +107,7 @@ module _ {S : Type 0} (I : S → Type 0) (N : ℕ) where
       evaluating_stops : Stopping (width Γ C e) (evaluating evaluate effect p e n)
       unfolding evaluating
       evaluating_stops D most r h =
-          step-costs D most p (λ m b σ. r (evaluate σ e n) m b σ) l (record { from = λ m b σ y g i. (h (evaluate σ e n) (sized C σ e n z t)).from m b σ y g i })
+          step_costs D most p (λ m b σ. r (evaluate σ e n) m b σ) l (record { from = λ m b σ y g i. (h (evaluate σ e n) (sized C σ e n z t)).from m b σ y g i })
 
       testing_stops : Stopping (width Γ C e) (testing evaluate effect p e n)
       unfolding testing
@@ -121,8 +121,8 @@ module _ {S : Type 0} (I : S → Type 0) (N : ℕ) where
     pub run_stops : {C : ℕ} {P : Program} → Fits Γ C P → NearProgram N P → (m : Mask) (b : ℕ) (σ : S) → length m ≡ C → I σ → Stops I N b (R.run evaluate effect P m b σ)
     unfolding R.run storing
     run_stops fits_nothing near_nothing m b σ z i = unspent i
-    run_stops {C} fits-step (near_step {p = p} l) m b σ z i =
-        (step-costs C b p (λ m b σ. done (effect σ (passes p)) b) l (record { from = λ m b σ z g i. unspent (keeps σ (passes p) does_pass i) })).from m b σ z (omega arith) i
+    run_stops {C} fits_step (near_step {p = p} l) m b σ z i =
+        (step_costs C b p (λ m b σ. done (effect σ (passes p)) b) l (record { from = λ m b σ z g i. unspent (keeps σ (passes p) does_pass i) })).from m b σ z (omega arith) i
     run_stops {C} (fits_put {x = x} {e = e} x_in t from to) (near_put {p = p} l) m b σ z i =
         (evaluating_stops t.matched p l m z C b (λ v m b σ. done (effect σ (stores p x m v)) b)
         (λ v w. record { from = λ m b σ z g i. unspent (keeps σ (stores p x m v) (does_store x_in (rw z from) (rw w to)) i) })).from m b σ z (omega arith) i

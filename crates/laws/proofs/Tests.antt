@@ -1,7 +1,7 @@
 -- What a test says of its parts, and what holds of a choice.
 use mathlib.Core.Path.{◌≡◌, refl, sym}
 use mathlib.Core.Bool.{Bool, true, false, ◌&&◌, ◌||◌, cond, false≢true}
-use Rattle.meaning.specs.Codes.{if◌then◌else◌}
+use Rattle.meaning.specs.Codes.{when◌then◌else◌}
 
 pub and_l : (a b : Bool) → (a && b) ≡ true → a ≡ true
 and_l true b h = refl
@@ -24,7 +24,7 @@ any_of_four false false false true = refl
 any_of_four false false false false = refl
 
 -- What holds in both cases of a choice holds of the choice.
-pub by_if : {A : Type 0} (P : A → Type 0) (b : Bool) (x y : Unit {0} → A) → (b ≡ true → P (x tt)) → (b ≡ false → P (y tt)) → P (if b then x else y)
+pub by_if : {A : Type 0} (P : A → Type 0) (b : Bool) (x y : Unit {0} → A) → (b ≡ true → P (x tt)) → (b ≡ false → P (y tt)) → P (when b then x else y)
 by_if P true x y f g = f refl
 by_if P false x y f g = g refl
 

@@ -1,6 +1,6 @@
 -- A program that is typed can be run over its declarations: numbers, places, lengths and kinds are in order; and a refusal is one of the
 -- judge's, at a place of the text.
-use Prim.Native.Nat.{ℕ, suc, ◌+◌, ◌≤◌, ◌<◌}
+use Prim.Native.Nat.{ℕ, zero, suc, ◌+◌, ◌≤◌, ◌<◌}
 use mathlib.Core.Path.{◌≡◌, refl, ap, ap₂, ◌∙◌}
 use mathlib.Core.Bool.{Bool, true, false, ◌&&◌, ◌||◌, not, false≢true}
 use mathlib.Core.List.{List, [], ◌∷◌}
@@ -12,7 +12,7 @@ use borrow.Author.Tests.{ltb-true}
 use Rattle.meaning.specs.declared.Kind.{Kind}
 use Rattle.meaning.specs.declared.Kind.TheVariants.{Int as int, Bool as bool, Float as float}
 use Rattle.meaning.specs.declared.Refusal.TheVariants.{UnknownName, WrongLength, WrongKind, AlreadyOpen, TooManyDeclarations, LengthNotListed, LengthOneTarget}
-use Rattle.meaning.specs.Codes.{Out, after, give, refuse, check, option, if◌then◌else◌, ◌among◌, lengths, nesting_limit, declaration_limit, the_judge_gives, only_a_run_gives}
+use Rattle.meaning.specs.Codes.{Out, after, give, refuse, check, option, when◌then◌else◌, ◌among◌, lengths, nesting_limit, declaration_limit, the_judge_gives, only_a_run_gives}
 use Rattle.meaning.specs.Tokens.{equal}
 use Rattle.meaning.specs.Tree.{Name, kind_number, same_kind, ◌one_of◌, table, unary_table, Expr, number, float_number, boolean, name, current_mask, unary, binary, Block, Stmt, empty, braces, declare, assign, if_else, while, scalar, Stmts, none_yet, ◌⨾◌}
 use Rattle.meaning.specs.Program.{Program, put}
@@ -21,7 +21,7 @@ use Rattle.meaning.specs.Typing.{Types, Typed, accepts, match, joined, fits, fin
 use Rattle.laws.specs.Outcomes.{Ends, well, refusal, Still, RefusedIn}
 use Rattle.laws.specs.Sound.{Spelled, stack, InText, of_number, of_float, of_boolean, of_name, of_mask, of_unary, of_binary, Sound, Placed, no_block, at_place, Valued, no_value, a_value, Walkable, of_empty, of_braces, of_declare, of_assign, of_if, of_while, of_scalar, AllWalkable, of_none, of_more, code_stack, Able, Runnable, of_nothing, of_step, of_put, of_both, of_choice, of_cycle, of_alone}
 use Rattle.laws.specs.Declarations.{Listed, Ordered, Grows}
-use Rattle.laws.specs.Lengths.{Spreadable, Suits, matched_constant, matched_variable, matched_mask, matched_one, matched_two, kinded_number, kinded_float, kinded_truth, kinded_variable, kinded_mask, kinded_one, kinded_two, TypedAs, Fits, fits_nothing, fits-step, fits_put, fits_both, fits_choice, fits_cycle, fits_alone}
+use Rattle.laws.specs.Lengths.{Spreadable, Suits, matched_constant, matched_variable, matched_mask, matched_one, matched_two, kinded_number, kinded_float, kinded_truth, kinded_variable, kinded_mask, kinded_one, kinded_two, TypedAs, Fits, fits_nothing, fits_step, fits_put, fits_both, fits_choice, fits_cycle, fits_alone}
 use Rattle.laws.specs.Accepted.{Ready}
 use Rattle.laws.specs.Near.{NearProgram, near_nothing, near_step, near_put, near_both, near_choice, near_cycle, near_alone}
 use Rattle.laws.proofs.Outcomes.{still, followed, keeping, weaker, checked, passed}
@@ -56,7 +56,7 @@ unfolding find
 found_below x k [] i e = let z : ◌≡◌ {A = ℕ} 0 1 = cc in absurd (omega arith)
 found_below x k (d ∷ Γ) i e = go (d.open? && equal d.name x) (found_below x (suc k) Γ i) e
   where
-    go : (b : Bool) → (find x (suc k) Γ ≡ some i → i < suc k + length Γ) → (if b then (λ _. some k) else λ _. find x (suc k) Γ) ≡ some i → i < k + suc (length Γ)
+    go : (b : Bool) → (find x (suc k) Γ ≡ some i → i < suc k + length Γ) → (when b then (λ _. some k) else λ _. find x (suc k) Γ) ≡ some i → i < k + suc (length Γ)
     go true r e = let z : k ≡ i = cc in omega arith
     go false r e = omega (arith, r e)
 
@@ -217,7 +217,7 @@ module _ (text : List ℕ) where
   declaration_goes r C p k b q x none Γ l near hb hx no_value order =
       keeping _ (block_goes b Γ hb) (λ _ good.
       followed _ (declare_goes C k (lanes_or 1 b) q x Γ (good 1 listed_one) hx order) (λ i Δ d.
-      well (record { grows = d.grows; runs = of_step; near = near_step near; fit = fits-step; order = d.order })))
+      well (record { grows = d.grows; runs = of_step; near = near_step near; fit = fits_step; order = d.order })))
   declaration_goes r C p k b q x (some (e, v)) Γ l near hb hx (a_value _ at_equals sound) order =
       keeping _ (block_goes b Γ hb) (λ _ good.
       keeping _ (typed_goes C l Γ order v sound.in_text) (λ a w.
@@ -243,7 +243,8 @@ module _ (text : List ℕ) where
     unfolding typed_statement
 
     statement_goes : (r C : ℕ) (s : Stmt) (Γ : Declarations) → Listed C → Walkable text r s → Ordered text Γ → Goes (Grown r C Γ) (typed_statement C s Γ)
-    statement_goes r C (empty p) Γ l (of_empty near) order = well {s = Γ} (record { grows = grows_same Γ; runs = of_step; near = near_step near; fit = fits-step; order = order })
+    statement_goes r C (empty p) Γ l (of_empty near) order = well {s = Γ} (record { grows = grows_same Γ; runs = of_step; near = near_step near; fit = fits_step; order = order })
+    statement_goes zero C (braces p s) Γ l w order = elim w [ ]
     statement_goes (suc r) C (braces p s) Γ l (of_braces w) order =
         scoped (typed_statements C s) (weaker (statements_go r C s Γ l w order) (λ P Δ g. record { grows = g.grows; runs = deeper g.runs; near = g.near; fit = g.fit; order = g.order }))
     statement_goes r C (declare p k b q x v) Γ l (of_declare near hb hx hv) order = declaration_goes r C p k b q x v Γ l near hb hx hv order
@@ -254,6 +255,7 @@ module _ (text : List ℕ) where
         keeping _ (stored_goes C q v.1.kind v.1.lanes a Γ at_equals) (λ _ s.
         let same : Stored C (declared Γ v.0).kind (declared Γ v.0).lanes a = rw h.is at s in
         well {s = Γ} (put_grown (grows_same Γ) sound w p near h.below refl refl same h.suits order))))
+    statement_goes zero C (if_else p e s t) Γ l w order = elim w [ ]
     statement_goes (suc r) C (if_else p e s t) Γ l (of_if near sound a b) order =
         keeping _ (condition_goes C l Γ order p e near sound.in_text) (λ c h.
         let w = h.1 in
@@ -269,6 +271,7 @@ module _ (text : List ℕ) where
           fit = fits_choice (typed_grows all (rw h.0 at w.typed)) (rw (← lanes) at (fits_grows f.grows g.fit)) (rw (← lanes) at f.fit);
           order = f.order;
         }))))
+    statement_goes zero C (while p e s) Γ l w order = elim w [ ]
     statement_goes (suc r) C (while p e s) Γ l (of_while near sound a) order =
         keeping _ (condition_goes C l Γ order p e near sound.in_text) (λ c h.
         let w = h.1 in
@@ -282,6 +285,7 @@ module _ (text : List ℕ) where
           fit = fits_cycle (typed_grows g.grows (rw h.0 at w.typed)) (rw (← lanes) at g.fit);
           order = g.order;
         })))
+    statement_goes zero C (scalar p s) Γ l w order = elim w [ ]
     statement_goes (suc r) C (scalar p s) Γ l (of_scalar a) order =
         followed _ (scoped (typed_statement 1 s) (statement_goes r 1 s Γ listed_one a order)) (λ P Δ g.
         well {s = Δ} (record { grows = g.grows; runs = of_alone g.runs; near = near_alone g.near; fit = fits_alone g.fit; order = g.order }))

@@ -2,7 +2,6 @@
 use Prim.Native.Nat.{ℕ, zero, suc, ◌/◌, ◌^◌, ◌<◌}
 use mathlib.Core.Path.{◌≡◌, refl, sym, ap, ap₂, ◌∙◌}
 use mathlib.Core.Bool.{Bool, true, false, false≢true}
-use mathlib.Core.Bool as B
 use mathlib.Core.List.{List, [], ◌∷◌, map, zip_with}
 use native.Mathlib.Omega.{arith}
 use native.Mathlib.Nat.{mod-lt, pow-suc, one-le-pow}
@@ -11,7 +10,7 @@ use lib.ListN.{length, take, drop, length-map, length-replicate}
 use Rattle.meaning.specs.declared.Kind.{Kind}
 use Rattle.meaning.specs.declared.Kind.TheVariants.{Int as int, Bool as bool, Float as float}
 use Rattle.meaning.specs.declared.Unary.{Unary}
-use Rattle.meaning.specs.declared.Unary.TheVariants.{Neg as neg, Inv as inv, Not as not}
+use Rattle.meaning.specs.declared.Unary.TheVariants.{Neg as neg, Inv as inv, Not as unary_not}
 use Rattle.meaning.specs.declared.Binary.{Binary}
 use Rattle.meaning.specs.declared.Binary.TheVariants.{Or as or, Xor as xor, And as and, Eq as eq, Ne as ne, Lt as lt, Gt as gt, Le as le, Ge as ge, Add as add, Sub as sub, Mul as mul}
 use Rattle.meaning.specs.Tree.{kind_number, same_kind, ◌one_of◌, table, unary_table}
@@ -21,7 +20,7 @@ use Rattle.meaning.specs.Floats.{one_nan}
 use Rattle.meaning.specs.Running.{word, word_unary, word_binary, float_unary, float_binary, unary_of, binary_of, lanewise, value, mask_and, mask_and_not, Event, passes, stores}
 use Rattle.meaning.specs.Typing.{joined, gives_kind, width}
 use Rattle.meaning.specs.Services.{evaluate, effect}
-use Rattle.laws.specs.Lengths.{Spreadable, single, full, Match, equal, left, right, Matched, matched_constant, matched_variable, matched_mask, matched_one, matched_two, Kinded, kinded_number, kinded_float, kinded_truth, kinded_variable, kinded_mask, kinded_one, kinded_two, TypedAs, Fits, fits_nothing, fits-step, fits_put, fits_both, fits_choice, fits_cycle, fits_alone}
+use Rattle.laws.specs.Lengths.{Spreadable, single, full, Match, equal, left, right, Matched, matched_constant, matched_variable, matched_mask, matched_one, matched_two, Kinded, kinded_number, kinded_float, kinded_truth, kinded_variable, kinded_mask, kinded_one, kinded_two, TypedAs, Fits, fits_nothing, fits_step, fits_put, fits_both, fits_choice, fits_cycle, fits_alone}
 use Rattle.laws.specs.Values.{All, no_more, and_one, lane_bits, Lanes, Bytes, Every, every_nothing, every_step, every_put, every_both, every_choice, every_cycle, every_alone}
 use Rattle.laws.proofs.Lengths.{joined_one, joined_same, joined_right}
 use Rattle.laws.proofs.Floats.{plus-storable, negated-storable, minus-storable, times-storable}
@@ -57,31 +56,31 @@ module _ {A : Type 0} where
 
 -- An operator on two values, one of them perhaps replicated.
 module _ {A B D : Type 0} (f : A → B → D) where
-  pub length_zipWith : (u : List A) (v : List B) → length u ≡ length v → length (zip_with f u v) ≡ length v
+  pub length-zip_with : (u : List A) (v : List B) → length u ≡ length v → length (zip_with f u v) ≡ length v
   unfolding zip_with
-  length_zipWith [] v e = e
-  length_zipWith (a ∷ u) [] e = refl
-  length_zipWith (a ∷ u) (b ∷ v) e = ap suc (length_zipWith u v (omega arith))
+  length-zip_with [] v e = e
+  length-zip_with (a ∷ u) [] e = refl
+  length-zip_with (a ∷ u) (b ∷ v) e = ap suc (length-zip_with u v (omega arith))
 
   pub length-lanewise : (u : List A) (v : List B) → Match (length u) (length v) → length (lanewise f u v) ≡ joined (length u) (length v)
   unfolding lanewise
   length-lanewise u v (equal e) =
-      rw (e, spread_full v, joined_same (length v)) (length_zipWith (spread (length v) u) v (length-spread (length v) u (full e)))
+      rw (e, spread_full v, joined_same (length v)) (length-zip_with (spread (length v) u) v (length-spread (length v) u (full e)))
   length-lanewise u v (left e) =
-      rw (joined_one (length u) (length v) e, e, spread_one v) (length_zipWith (spread (length v) u) v (length-spread (length v) u (single e)))
+      rw (joined_one (length u) (length v) e, e, spread_one v) (length-zip_with (spread (length v) u) v (length-spread (length v) u (single e)))
   length-lanewise u v (right e) =
       let k : length (spread (length u) v) ≡ length u = length-spread (length u) v (single e) in
-      rw (joined_right (length u) (length v) e, e, spread_one u) (length_zipWith u (spread (length u) v) (sym k) ∙ k)
+      rw (joined_right (length u) (length v) e, e, spread_one u) (length-zip_with u (spread (length u) v) (sym k) ∙ k)
 
 -- The masks of the branches of a vector condition.
 module _ (m : Mask) (v : Value) (t : Spreadable (length v) (length m)) where
   pub length-mask_and : length (mask_and m v) ≡ length v
   unfolding mask_and
-  length-mask_and = length_zipWith _ (spread (length v) m) v (length-spread (length v) m t)
+  length-mask_and = length-zip_with _ (spread (length v) m) v (length-spread (length v) m t)
 
   pub length-mask_and_not : length (mask_and_not m v) ≡ length v
   unfolding mask_and_not
-  length-mask_and_not = length_zipWith _ (spread (length v) m) v (length-spread (length v) m t)
+  length-mask_and_not = length-zip_with _ (spread (length v) m) v (length-spread (length v) m t)
 
 -- ρ gives the variables' values, of the declared lengths: so each expression has its length.
 module _ {Γ : Declarations} {C : ℕ} (m : Mask) (as_long : length m ≡ C) (ρ : ℕ → Value) (sized : (x : ℕ) → x < length Γ → length (ρ x) ≡ (declared Γ x).lanes) where
@@ -123,13 +122,13 @@ pub unary_low : (k : Kind) (o : Unary) (a : ℕ) → k one_of (unary_table o).1 
 unfolding unary_table ◌one_of◌ same_kind kind_number unary_of word_unary float_unary lane_bits
 unary_low int neg a t h = word_low _
 unary_low int inv a t h = omega arith
-unary_low int not a t h = absurd (false≢true t)
+unary_low int unary_not a t h = absurd (false≢true t)
 unary_low bool neg a t h = absurd (false≢true t)
 unary_low bool inv a t h = absurd (false≢true t)
-unary_low bool not a t h = omega arith
+unary_low bool unary_not a t h = omega arith
 unary_low float neg a t h = (negated-storable a).fits
 unary_low float inv a t h = absurd (false≢true t)
-unary_low float not a t h = absurd (false≢true t)
+unary_low float unary_not a t h = absurd (false≢true t)
 
 pub binary_low : (k : Kind) (o : Binary) (a b : ℕ) → k one_of (table o).1 ≡ true → a < 2 ^ lane_bits k → b < 2 ^ lane_bits k → binary_of k o a b < 2 ^ lane_bits (gives_kind (table o).2 k)
 unfolding table ◌one_of◌ same_kind kind_number binary_of word_binary float_binary gives_kind lane_bits
@@ -218,7 +217,7 @@ evaluate_lanes {Γ} m t a = value_lanes m _ (λ x h. fetch_lanes Γ x a) t
 -- What typing makes sure of each expression, of every expression of a program.
 pub fits_every : {Γ : Declarations} {C : ℕ} {P : Program} (Q : Kind → Code → Type 0) → ((C : ℕ) (k : Kind) (e : Code) → TypedAs Γ C k e → Q k e) → Fits Γ C P → Every Q Γ P
 fits_every Q f fits_nothing = every_nothing
-fits_every Q f fits-step = every_step
+fits_every Q f fits_step = every_step
 fits_every Q f (fits_put _ t _ _) = every_put (f _ _ _ t)
 fits_every Q f (fits_both s t) = every_both (fits_every Q f s) (fits_every Q f t)
 fits_every Q f (fits_choice t r q) = every_choice (f _ _ _ t) (fits_every Q f r) (fits_every Q f q)

@@ -5,10 +5,10 @@ use Rattle.std.proofs.Math.Bool as B
 use Rattle.meaning.specs.declared.Kind.{Kind}
 use Rattle.meaning.specs.declared.Kind.TheVariants.{Int as int, Bool as bool, Float as float}
 use Rattle.meaning.specs.declared.Unary.{Unary}
-use Rattle.meaning.specs.declared.Unary.TheVariants.{Neg as neg, Inv as inv, Not as not}
+use Rattle.meaning.specs.declared.Unary.TheVariants.{Neg as neg, Inv as inv, Not as unary_not}
 use Rattle.meaning.specs.declared.Binary.{Binary}
 use Rattle.meaning.specs.declared.Binary.TheVariants.{Or as or, Xor as xor, And as and, Eq as eq, Ne as ne, Lt as lt, Gt as gt, Le as le, Ge as ge, Add as add, Sub as sub, Mul as mul}
-use Rattle.meaning.specs.Codes.{if◌then◌else◌}
+use Rattle.meaning.specs.Codes.{when◌then◌else◌}
 use Rattle.meaning.specs.Program.{Code, constant, variable, the_mask, one, two}
 use Rattle.meaning.specs.Memory.{Memory, Value, Mask, Declarations, bit, truth, load}
 use Rattle.meaning.specs.Floats as F
@@ -20,7 +20,7 @@ use Rattle.laws.specs.Values.{Bytes}
 
 -- "4 bytes little-endian two's complement": the whole number with a sign that a word stands for.
 unfoldable pub signed : ℕ → ℤ
-signed w = if ltb w (2 ^ 31) then (λ _. pos w) else λ _. pos w -ℤ pos (2 ^ 32)
+signed w = when ltb w (2 ^ 31) then (λ _. pos w) else λ _. pos w -ℤ pos (2 ^ 32)
 
 -- "keep the low 32 bits, as two's complement": kept is the number from -2^31 to 2^31 - 1 that is `exact` modulo 2^32.
 pub record KeepsLow (exact kept : ℤ) : Type 0 where
@@ -47,7 +47,7 @@ pub data GivesOne : Kind → Unary → ℕ → ℕ → Type 0 where
   -- "unary `-` keep[s] the low 32 bits, as two's complement"
   negative : {a c : ℕ} → KeepsLow (neg_ℤ (signed a)) (signed c) → GivesOne int neg a c
   complement : {a c : ℕ} → EachBit (λ i. B.not (bit_at i a)) c → GivesOne int inv a c
-  opposite : {a c : ℕ} → c ≡ bit (B.not (truth a)) → GivesOne bool not a c
+  opposite : {a c : ℕ} → c ≡ bit (B.not (truth a)) → GivesOne bool unary_not a c
   -- of floats "unary minus"
   negated_single : {a c : ℕ} → c ≡ negated a → GivesOne float neg a c
 

@@ -54,7 +54,7 @@ pub record TypedAs (Γ : Declarations) (C : ℕ) (k : Kind) (e : Code) : Type 0 
 -- condition is a bool. "Its branches or body have context length C if the condition's length is 1, otherwise the condition's length."
 pub data Fits (Γ : Declarations) : ℕ → Program → Type 0 where
   fits_nothing : {C : ℕ} → Fits Γ C nothing
-  fits-step : {C p : ℕ} → Fits Γ C (step p)
+  fits_step : {C p : ℕ} → Fits Γ C (step p)
   fits_put : {C p x : ℕ} {e : Code} → x < length Γ → TypedAs Γ C (declared Γ x).kind e
       → Spreadable (declared Γ x).lanes C → Spreadable (declared Γ x).lanes (width Γ C e) → Fits Γ C (put p x e)
   fits_both : {C : ℕ} {s t : Program} → Fits Γ C s → Fits Γ C t → Fits Γ C (both s t)

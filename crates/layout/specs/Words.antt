@@ -7,7 +7,7 @@ use Rattle.std.specs.Prelude.{ℕ, ◌+◌, Bool, true, false, List, [], ◌∷�
 use Rattle.std.proofs.Math.Option.{Option, none, some}
 use Rattle.meaning.specs.declared.Kind.{Kind}
 use Rattle.meaning.specs.declared.Kind.TheVariants.{Int as int, Bool as bool, Float as float}
-use Rattle.meaning.specs.declared.Unary.TheVariants.{Neg as neg, Inv as inv, Not as not}
+use Rattle.meaning.specs.declared.Unary.TheVariants.{Neg as neg, Inv as inv, Not as unary_not}
 use Rattle.meaning.specs.declared.Binary.TheVariants.{Or as or, Xor as xor, And as and, Eq as eq, Ne as ne, Lt as lt, Gt as gt, Le as le, Ge as ge, Add as add, Sub as sub, Mul as mul}
 use Rattle.meaning.specs.Codes.{option, lookup}
 use Rattle.meaning.specs.Tokens.{the}
@@ -38,7 +38,7 @@ unfoldable pub operator_of : ℕ → Binary
 operator_of tag = option mul (λ o. o) (lookup (eqb tag) (map (λ o. (binary_tag o, o)) (or ∷ xor ∷ and ∷ eq ∷ ne ∷ lt ∷ gt ∷ le ∷ ge ∷ add ∷ sub ∷ [])))
 
 unfoldable pub sign_of : ℕ → Unary
-sign_of tag = option not (λ o. o) (lookup (eqb tag) (map (λ o. (unary_tag o, o)) (neg ∷ inv ∷ [])))
+sign_of tag = option unary_not (λ o. o) (lookup (eqb tag) (map (λ o. (unary_tag o, o)) (neg ∷ inv ∷ [])))
 
 unfoldable pub boolean_tag : Bool → ℕ
 boolean_tag true = the "true"

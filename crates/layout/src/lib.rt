@@ -1,5 +1,7 @@
 // How lent buffers hold things, and every number of that: tokens, trees and programs, declarations, instructions, the stacks of
 // typing and of planning.
+#![tactic(auto)]
+
 pub mod head;
 pub mod instruction;
 pub mod limit;
@@ -21,7 +23,7 @@ use meaning::{Kind, Refusal};
 
 // What a stage of judging answers: how many tokens, declarations or operands that wait there are so far, and how many words were written;
 // or the refusal and its place.
-#[derive(Drop)]
+#[derive(Clone, Copy)]
 pub enum Stage {
     Done { count: usize, size: usize },
     Refused { refusal: Refusal, place: usize },

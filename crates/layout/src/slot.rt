@@ -36,7 +36,7 @@ pub fn word(stack: &[u32], i: usize) -> u32
     requires { i * slot_words + slot_words ≤ length stack.now }
     ensures { result ≡ slot_word stack.now i }
 {
-    stack[i * WORDS + word_has_bits]
+    stack[i * WORDS + WORD]
 }
 
 // Writes operand i.

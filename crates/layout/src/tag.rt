@@ -53,8 +53,8 @@ pub fn unary_of(tag: u32) -> Unary
     ensures { result ≡ sign_of tag }
 {
     match tag {
-        takes_neg => Unary::Neg,
-        takes_inv => Unary::Inv,
+        NEG => Unary::Neg,
+        INV => Unary::Inv,
         _ => Unary::Not,
     }
 }

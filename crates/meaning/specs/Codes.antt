@@ -88,11 +88,11 @@ abbrev pub check : {S : Type 0} → Bool → Refusal → ℕ → Doing S (Unit {
 check true c p = give tt
 check false c p = refuse c p
 
-infix 5 if◌then◌else◌
+infix 5 when◌then◌else◌
 -- A choice; what is not chosen is not computed.
-abbrev pub if◌then◌else◌ : {A : Type 0} → Bool → (Unit {0} → A) → (Unit {0} → A) → A
-if true then a else b = a tt
-if false then a else b = b tt
+abbrev pub when◌then◌else◌ : {A : Type 0} → Bool → (Unit {0} → A) → (Unit {0} → A) → A
+when true then a else b = a tt
+when false then a else b = b tt
 
 -- b where there is nothing, and otherwise what f makes of it.
 abbrev pub option : {A B : Type 0} → B → (A → B) → Option A → B
@@ -102,7 +102,7 @@ option b f (some a) = f a
 -- What stands beside the first key that passes a test.
 abbrev pub lookup : {K A : Type 0} → (K → Bool) → List (K × A) → Option A
 lookup p [] = none
-lookup p (e ∷ l) = if p e.0 then (λ _. some e.1) else λ _. lookup p l
+lookup p (e ∷ l) = when p e.0 then (λ _. some e.1) else λ _. lookup p l
 
 infix 40 ◌among◌
 -- Is n in the list?

@@ -4,9 +4,9 @@ use Prim.Native.String.{String}
 use Rattle.std.proofs.Math.Option.{Option, none, some}
 use Rattle.meaning.specs.declared.Kind.{Kind}
 use Rattle.meaning.specs.declared.Refusal.TheVariants.{NotAllowed, TooDeep}
-use Rattle.meaning.specs.Codes.{Out, ok, Doing, ◌>>=◌, ◌>>◌, give, refuse, check, repeat, option, lookup, if◌then◌else◌, ◌among◌, nesting_limit}
+use Rattle.meaning.specs.Codes.{Out, ok, Doing, ◌>>=◌, ◌>>◌, give, refuse, check, repeat, option, lookup, when◌then◌else◌, ◌among◌, nesting_limit}
 use Rattle.meaning.specs.Tokens.{Token, end_at, the, words, marks, numbered, reserved, signs}
-use Rattle.meaning.specs.declared.Unary.TheVariants.{Neg as neg, Inv as inv, Not as not}
+use Rattle.meaning.specs.declared.Unary.TheVariants.{Neg as neg, Inv as inv, Not as unary_not}
 use Rattle.meaning.specs.declared.Binary.{Binary}
 use Rattle.meaning.specs.Tree.{kinds, table, unary_table, levels, Expr, number, float_number, boolean, name, current_mask, unary, binary, Block, Stmt, empty, braces, declare, assign, if_else, while, scalar, Stmts, none_yet, ◌⨾◌}
 
@@ -69,7 +69,7 @@ module _ (ts : List Token) where
   -- R-2: "A constant is a whole number up to 16777216 followed by `.0`". `deep` and `parens` read what stands one level deeper.
   unfoldable pub operand : After Expr → After Expr → Reads Expr
   operand deep parens = choose (
-      map (λ o. (unary_table o).0 ⇒ λ t. do e ← deep t; give (unary t.place o e)) (neg ∷ inv ∷ not ∷ []) ++
+      map (λ o. (unary_table o).0 ⇒ λ t. do e ← deep t; give (unary t.place o e)) (neg ∷ inv ∷ unary_not ∷ []) ++
       ("number" ⇒ λ t. give (number t.value))
       ∷ ("float number" ⇒ λ t. give (float_number t.value))
       ∷ ("true" ⇒ λ t. give (boolean true))
@@ -105,7 +105,7 @@ module _ (ts : List Token) where
   unfoldable pub block : Reads Block
   block = do
     t ← look
-    if eqb t.is (the "block")
+    when eqb t.is (the "block")
         then (λ _. do next; expect "["; n ← expect "number"; expect "]"; give (some (n.value, n.place)))
         else λ _. give none
 
@@ -136,7 +136,7 @@ module _ (ts : List Token) where
   unfoldable pub another : String → Reads Stmt → Stmts → Reads (Option Stmts)
   another close m l = do
     t ← look
-    if eqb t.is (the close) then (λ _. give none) else λ _. do s ← m; give (some (l ⨾ s))
+    when eqb t.is (the close) then (λ _. give none) else λ _. do s ← m; give (some (l ⨾ s))
 
   -- "a sequence of statements, perhaps empty", and the token that closes it
   unfoldable pub sequence : String → Reads Stmt → Reads Stmts

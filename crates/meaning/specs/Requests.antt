@@ -1,6 +1,6 @@
 -- Document 02: cases worked out by hand for the requests that are made. That every row holds is the theorem of proofs/Requests.antt.
 use Rattle.std.specs.Prelude.{ℕ, zero, suc, ◌+◌, ◌/◌, ◌%◌, List, [], ◌∷◌, ◌++◌, ltb, replicate}
-use Rattle.meaning.specs.Codes.{if◌then◌else◌}
+use Rattle.meaning.specs.Codes.{when◌then◌else◌}
 use Rattle.meaning.specs.Tokens.{bytes}
 use Rattle.meaning.specs.Table.{Row, ◌over◌for◌gives◌leaves◌, ◌gets◌at◌, ints}
 
@@ -79,7 +79,7 @@ long_blocks =
 
 -- The digits of a number below 100.
 unfoldable pub digits : ℕ → List ℕ
-digits n = if ltb n 10 then (λ _. (48 + n) ∷ []) else λ _. (48 + n / 10) ∷ (48 + n % 10) ∷ []
+digits n = when ltb n 10 then (λ _. (48 + n) ∷ []) else λ _. (48 + n / 10) ∷ (48 + n % 10) ∷ []
 
 -- The text of n declarations, `int block[64] v0;`, `int block[64] v1;` and so on, without a space between them.
 unfoldable pub declarations : ℕ → List ℕ

@@ -2,7 +2,7 @@
 -- quoted from its request (docs/DECISIONS.md, points 8 and 14).
 use Rattle.std.specs.Prelude.{ℕ, zero, suc, ◌*◌, ◌-◌, ◌/◌, min, ◌≡◌, true, List, [], ◌∷◌, ◌++◌, leb, length, take, drop}
 use Rattle.meaning.specs.declared.Refusal.TheVariants.{MemoryTooShort}
-use Rattle.meaning.specs.Codes.{code, Out, ok, refused, if◌then◌else◌}
+use Rattle.meaning.specs.Codes.{code, Out, ok, refused, when◌then◌else◌}
 use Rattle.meaning.specs.Tokens.{lexed}
 use Rattle.meaning.specs.Tree.{kind_number}
 use Rattle.meaning.specs.Reading.{read}
@@ -67,7 +67,7 @@ program_run Γ P = R.run (evaluate Γ) (effect Γ) P
 unfoldable pub executed : (Declarations → Program → Run Memory) → Memory → ℕ → Out Declarations Program → Answer × Memory
 executed by M budget (refused c p) = (answer (code c) p 0 0, M)
 executed by M budget (ok P Γ) =
-    if leb (need Γ) (length M)
+    when leb (need Γ) (length M)
     then (λ _. ended (need Γ) budget (by Γ P (true ∷ []) budget M))
     else λ _. (answer (code MemoryTooShort) 0 (need Γ) 0, M)
 
@@ -86,7 +86,7 @@ in_a_row (n ∷ l) = little_endian 4 n ++ in_a_row l
 unfoldable pub listed : Declarations → List ℕ → List ℕ
 listed [] l = l
 listed (d ∷ Γ) l =
-    if leb 16 (length l)
+    when leb 16 (length l)
     then (λ _. in_a_row (d.place ∷ kind_number d.kind ∷ d.lanes ∷ d.address ∷ []) ++ listed Γ (drop 16 l))
     else λ _. l
 
@@ -117,7 +117,7 @@ with_numbers l slice = in_a_row l ++ drop (4 * length l) slice
 -- returns 0 and nothing else happens."
 unfoldable pub called : {A : Type 0} → List ℕ → A → List ℕ × A → Called A
 called slice lent (l, after) =
-    if leb (4 * length l) (length slice)
+    when leb (4 * length l) (length slice)
     then (λ _. record { returns = 1; slice = with_numbers l slice; lent = after })
     else λ _. record { returns = 0; slice = slice; lent = lent }
 
@@ -137,7 +137,7 @@ answer_bytes = 16
 
 -- "as many images as stand whole in `images` and in `answers` (none where size is 0)"
 unfoldable pub how_many : ℕ → List ℕ → List ℕ → ℕ
-how_many size images answers = if leb 1 size then (λ _. min (length images / size) (length answers / answer_bytes)) else λ _. 0
+how_many size images answers = when leb 1 size then (λ _. min (length images / size) (length answers / answer_bytes)) else λ _. 0
 
 -- "Image k is the bytes from k·size to (k+1)·size, its answer the 16 bytes at 16·k": the first n images and answers as `by` leaves
 -- them; "every other byte stays".

@@ -1,7 +1,7 @@
 -- Document 01, "Checked by hand": the starred cases, as one table. That every row holds is the theorem of proofs/Table.antt.
 use Rattle.std.specs.Prelude.{ℕ, ◌-◌, ◌^◌, List, [], ◌∷◌, ◌++◌}
 use Prim.Native.String.{String}
-use Rattle.meaning.specs.Codes.{if◌then◌else◌, the_judge_gives}
+use Rattle.meaning.specs.Codes.{when◌then◌else◌, the_judge_gives}
 use Rattle.meaning.specs.Tokens.{bytes}
 use Rattle.meaning.specs.Memory.{Memory, little_endian}
 use Rattle.meaning.specs.Services.{Answer, answer, judge, run}
@@ -57,7 +57,7 @@ starred =
 
 -- "Judge gives 0 to 11, always with steps 0": what judge answers where run answers a.
 unfoldable pub judged_as : Answer → Answer
-judged_as a = if the_judge_gives a.code then (λ _. answer a.code a.place a.need 0) else λ _. answer 0 0 a.need 0
+judged_as a = when the_judge_gives a.code then (λ _. answer a.code a.place a.need 0) else λ _. answer 0 0 a.need 0
 
 -- What run and judge make of a row, and what they should.
 unfoldable pub found : Row → (Answer × Memory) × Answer

@@ -1,12 +1,12 @@
 -- Document 01, "The text": bytes to tokens with their places; refusal 2. Document 02, R-2: the constants of floats.
-use Rattle.std.specs.Prelude.{ℕ, zero, suc, ◌+◌, ◌*◌, ◌-◌, Bool, true, false, not, ◌&&◌, ◌||◌, List, [], ◌∷◌, ◌++◌, eqb, leb, length, take, drop, get_or}
+use Rattle.std.specs.Prelude.{ℕ, suc, ◌+◌, ◌*◌, ◌-◌, Bool, true, false, not, ◌&&◌, ◌||◌, List, [], ◌∷◌, ◌++◌, eqb, leb, length, take, drop, get_or}
 use Prim.Native.String as S
 use Prim.Native.String.{String}
 use Prim.Native.Char as C
 use Rattle.std.proofs.Math.Option.{Option, none, some}
 use lib.Text.{eqt}
 use Rattle.meaning.specs.declared.Refusal.TheVariants.{TextTooLong, BadBytes}
-use Rattle.meaning.specs.Codes.{Out, ok, refused, Doing, ◌>>=◌, repeat, if◌then◌else◌, option, lookup, ◌among◌, text_limit, name_limit, number_limit, float_limit}
+use Rattle.meaning.specs.Codes.{Out, ok, refused, Doing, ◌>>=◌, repeat, when◌then◌else◌, option, lookup, ◌among◌, text_limit, name_limit, number_limit, float_limit}
 use Rattle.meaning.specs.Floats.{whole_float}
 
 -- The bytes of a text that is written here in quotes.
@@ -75,7 +75,7 @@ in_line c = not (eqb c 10)
 -- How many bytes at the start of some pass a test.
 unfoldable pub run_of : (ℕ → Bool) → List ℕ → ℕ
 run_of p [] = 0
-run_of p (c ∷ s) = if p c then (λ _. suc (run_of p s)) else λ _. 0
+run_of p (c ∷ s) = when p c then (λ _. suc (run_of p s)) else λ _. 0
 
 -- Do some bytes start with others?
 unfoldable pub starts : List ℕ → List ℕ → Bool
@@ -106,36 +106,36 @@ pub data Piece : Type 0 where
 unfoldable pub word : List ℕ → Piece
 word s =
     option
-    (if leb (length s) name_limit then (λ _. token (the "name") 0 s (length s)) else λ _. bad)
+    (when leb (length s) name_limit then (λ _. token (the "name") 0 s (length s)) else λ _. bad)
     (λ k. token k 0 [] (length s))
     (lookup (λ r. equal (bytes r) s) words)
 
 -- A number, from its digits.
 unfoldable pub digits : List ℕ → Piece
-digits s = if good_number number_limit s then (λ _. token (the "number") (decimal 0 s) [] (length s)) else λ _. bad
+digits s = when good_number number_limit s then (λ _. token (the "number") (decimal 0 s) [] (length s)) else λ _. bad
 
 -- "A constant is a whole number up to 16777216 followed by `.0`": from the digits of the whole number and those behind the point.
 unfoldable pub constant : List ℕ → List ℕ → Piece
 constant s t =
-    if good_number float_limit s && equal (bytes "0") t then (λ _. token (the "float number") (whole_float (decimal 0 s)) [] (length s + 2)) else λ _. bad
+    when good_number float_limit s && equal (bytes "0") t then (λ _. token (the "float number") (whole_float (decimal 0 s)) [] (length s + 2)) else λ _. bad
 
 -- What begins with digits s, before the bytes t: a constant where a point follows directly. "2 for a larger or malformed constant".
 unfoldable pub numeral : List ℕ → List ℕ → Piece
-numeral s t = if starts (bytes ".") t then (λ _. constant s (take (run_of digit (drop 1 t)) (drop 1 t))) else λ _. digits s
+numeral s t = when starts (bytes ".") t then (λ _. constant s (take (run_of digit (drop 1 t)) (drop 1 t))) else λ _. digits s
 
 -- The first sign of a list that the bytes start with.
 unfoldable pub sign : List (String × ℕ) → List ℕ → Piece
 sign [] s = bad
-sign ((r, k) ∷ l) s = if starts (bytes r) s then (λ _. token k 0 [] (length (bytes r))) else λ _. sign l s
+sign ((r, k) ∷ l) s = when starts (bytes r) s then (λ _. token k 0 [] (length (bytes r))) else λ _. sign l s
 
 -- "Tokens are taken longest first"; "`//` runs over any bytes to LF or the end".
 unfoldable pub piece : List ℕ → Piece
 piece [] = over
 piece (c ∷ s) = let t = c ∷ s in
-    if space c then (λ _. gap (run_of space t)) else λ _.
-    if starts (bytes "//") t then (λ _. gap (run_of in_line t)) else λ _.
-    if letter c then (λ _. word (take (run_of letter_or_digit t) t)) else λ _.
-    if digit c then (λ _. numeral (take (run_of digit t) t) (drop (run_of digit t) t)) else λ _.
+    when space c then (λ _. gap (run_of space t)) else λ _.
+    when starts (bytes "//") t then (λ _. gap (run_of in_line t)) else λ _.
+    when letter c then (λ _. word (take (run_of letter_or_digit t) t)) else λ _.
+    when digit c then (λ _. numeral (take (run_of digit t) t) (drop (run_of digit t) t)) else λ _.
     sign marks t
 
 -- One turn at a place p, after the tokens l; a refusal is at the "token start".
@@ -154,4 +154,4 @@ tokens text = (do
 -- "At most 4,096 bytes." "Order: 1; then 2 over the whole text".
 unfoldable pub lexed : List ℕ → Out ℕ (List Token)
 unfolding bytes reserved signs numbered words marks the end_at space digit letter letter_or_digit in_line run_of starts equal decimal good_number whole_float word digits constant numeral sign piece turn tokens
-lexed text = if leb (length text) text_limit then (λ _. tokens text) else λ _. refused TextTooLong 0
+lexed text = when leb (length text) text_limit then (λ _. tokens text) else λ _. refused TextTooLong 0

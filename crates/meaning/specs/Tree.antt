@@ -5,7 +5,7 @@ use Rattle.std.proofs.Math.Option.{Option, none, some}
 use Rattle.meaning.specs.declared.Kind.{Kind}
 use Rattle.meaning.specs.declared.Kind.TheVariants.{Int as int, Bool as bool, Float as float}
 use Rattle.meaning.specs.declared.Unary.{Unary}
-use Rattle.meaning.specs.declared.Unary.TheVariants.{Neg as neg, Inv as inv, Not as not}
+use Rattle.meaning.specs.declared.Unary.TheVariants.{Neg as neg, Inv as inv, Not as unary_not}
 use Rattle.meaning.specs.declared.Binary.{Binary}
 use Rattle.meaning.specs.declared.Binary.TheVariants.{Or as or, Xor as xor, And as and, Eq as eq, Ne as ne, Lt as lt, Gt as gt, Le as le, Ge as ge, Add as add, Sub as sub, Mul as mul}
 use Rattle.meaning.specs.Codes.{option}
@@ -59,7 +59,7 @@ table mul = ("*", int ∷ float ∷ [], its_kind)
 unfoldable pub unary_table : Unary → String × List Kind
 unary_table neg = ("-", int ∷ float ∷ [])
 unary_table inv = ("~", int ∷ [])
-unary_table not = ("!", bool ∷ [])
+unary_table unary_not = ("!", bool ∷ [])
 
 -- "Expressions, loosest first: `|`, `^`, `&`, (`==` `!=`), (`<` `>` `<=` `>=`), (`+` `-`), `*`"
 unfoldable pub levels : List (List Binary)

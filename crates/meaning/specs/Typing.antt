@@ -5,7 +5,7 @@ use Rattle.std.proofs.Math.Option.{Option, none, some}
 use Rattle.meaning.specs.declared.Kind.{Kind}
 use Rattle.meaning.specs.declared.Kind.TheVariants.{Int as int, Bool as bool, Float as float}
 use Rattle.meaning.specs.declared.Refusal.TheVariants.{UnknownName, AlreadyOpen, LengthNotListed, WrongKind, WrongLength, LengthOneTarget, TooManyDeclarations}
-use Rattle.meaning.specs.Codes.{Out, ok, refused, Doing, after, ◌>>=◌, ◌>>◌, give, refuse, check, option, if◌then◌else◌, ◌among◌, lengths, declaration_limit}
+use Rattle.meaning.specs.Codes.{Out, ok, Doing, after, ◌>>=◌, ◌>>◌, give, refuse, check, option, when◌then◌else◌, ◌among◌, lengths, declaration_limit}
 use Rattle.meaning.specs.Tokens.{equal, starts}
 use Rattle.meaning.specs.Tree.{Name, kind_number, same_kind, ◌one_of◌, Gives, a_bool, its_kind, table, unary_table, Expr, number, float_number, boolean, name, current_mask, unary, binary, Block, Stmt, empty, braces, declare, assign, if_else, while, scalar, Stmts, none_yet, ◌⨾◌}
 use Rattle.meaning.specs.Program.{Code, constant, variable, the_mask, one, two, Program, nothing, step, put, both, choice, cycle, alone}
@@ -36,7 +36,7 @@ match n m = eqb n m || eqb n 1 || eqb m 1
 
 -- The length then; also "C if the condition's length is 1, otherwise the condition's length".
 unfoldable pub joined : ℕ → ℕ → ℕ
-joined n m = if eqb n 1 then (λ _. m) else λ _. n
+joined n m = when eqb n 1 then (λ _. m) else λ _. n
 
 -- "must have length 1 or C, unless C is 1"
 unfoldable pub fits : ℕ → ℕ → Bool
@@ -45,7 +45,7 @@ fits C n = eqb n 1 || eqb n C || eqb C 1
 -- "A name is looked for among the declarations of the open scopes": its number, where those before Γ are k.
 unfoldable pub find : Name → ℕ → Declarations → Option ℕ
 find x k [] = none
-find x k (d ∷ Γ) = if d.open? && equal d.name x then (λ _. some k) else λ _. find x (suc k) Γ
+find x k (d ∷ Γ) = when d.open? && equal d.name x then (λ _. some k) else λ _. find x (suc k) Γ
 
 -- The name x at place p in a context of length C: 5, then 9.
 unfoldable pub variable_named : ℕ → ℕ → Name → Types (ℕ × Declared)

@@ -1,9 +1,11 @@
 // What the definitions and the code name alike: the kinds, the operators and the refusals of document 01.
+#![tactic(auto)]
+
 ghost use Rattle.std.specs.Prelude.{◌≡◌};
 ghost use Rattle.meaning.specs.Codes.{code};
 
 // "A type is `int` or `bool`"; document 02, R-2: "Add `float`".
-#[derive(Drop)]
+#[derive(Clone, Copy)]
 pub enum Kind {
     Int,
     Bool,
@@ -11,7 +13,7 @@ pub enum Kind {
 }
 
 // "unary `-` `~` `!`".
-#[derive(Drop)]
+#[derive(Clone, Copy)]
 pub enum Unary {
     Neg,
     Inv,
@@ -19,7 +21,7 @@ pub enum Unary {
 }
 
 // The other operators: `| ^ & == != < > <= >= + - *`.
-#[derive(Drop)]
+#[derive(Clone, Copy)]
 pub enum Binary {
     Or,
     Xor,
@@ -36,7 +38,7 @@ pub enum Binary {
 }
 
 // Why a text is not run to its end: the table of "Codes", in its order.
-#[derive(Drop)]
+#[derive(Clone, Copy)]
 pub enum Refusal {
     TextTooLong,
     BadBytes,

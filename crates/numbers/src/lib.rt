@@ -1,4 +1,6 @@
 // 32-bit little-endian numbers in a lent slice of bytes: those of an answer, or of a declaration of the listing.
+#![tactic(auto)]
+
 ghost use Rattle.std.specs.Prelude.{◌≡◌, [], ◌∷◌, ◌+◌, ◌≤◌, length};
 ghost use Rattle.std.proofs.lemmas.List.Edits.{sets};
 ghost use Rattle.meaning.specs.Memory.{little_endian};

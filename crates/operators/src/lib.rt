@@ -1,7 +1,9 @@
 // One lane: operators on its word, and its word from and to its bytes.
+#![tactic(auto)]
+
 ghost use Rattle.std.specs.Prelude.{◌≡◌, ◌+◌, ◌*◌, ◌<◌, length};
 ghost use Rattle.meaning.specs.declared.Kind.TheVariants.{Int as int};
-ghost use Rattle.meaning.specs.Memory.{truth, bit as lane-bit, lane_of, bytes_of, bool_byte};
+ghost use Rattle.meaning.specs.Memory.{truth, bit as lane_bit, lane_of, bytes_of, bool_byte};
 ghost use Rattle.meaning.specs.Running.{word, less, word_unary, word_binary};
 ghost use Rattle.operators.specs.Operators.{int_size, Sum, Order, Join};
 
@@ -27,7 +29,7 @@ fn below(x: u32, y: u32) -> bool
 
 // A truth as a lane.
 pub fn bit(c: bool) -> u32
-    ensures { result ≡ lane-bit c }
+    ensures { result ≡ lane_bit c }
 {
     if c { 1 } else { 0 }
 }
