@@ -1,5 +1,5 @@
 -- Where tokens parse, the reader reads them, and what it reads is the derivation's tree.
-use Prim.Native.Nat.{ℕ, zero, suc, ◌≤◌, ◌<◌, ◌-◌}
+use Prim.Native.Nat.{ℕ, zero, suc, ◌≤◌, ◌<◌}
 use Prim.Native.String.{String}
 use mathlib.Core.Path.{◌≡◌, refl, sym, ap, ◌∙◌}
 use mathlib.Core.Bool.{Bool, true, false}
@@ -12,7 +12,7 @@ use lib.Seq.{drop-cons}
 use borrow.Author.Tests.{eqb-true}
 use Rattle.meaning.specs.declared.Binary.{Binary}
 use Rattle.meaning.specs.declared.Refusal.TheVariants.{NotAllowed, TooDeep}
-use Rattle.meaning.specs.Codes.{Out, ok, refused, after, give, refuse, check, option, lookup, repeat, if◌then◌else◌, ◌among◌, nesting_limit}
+use Rattle.meaning.specs.Codes.{Out, ok, refused, after, give, refuse, check, option, lookup, repeat, when◌then◌else◌, ◌among◌, nesting_limit}
 use Rattle.meaning.specs.Tokens.{Token, end_at, the, words, marks, numbered, reserved, signs}
 use Rattle.meaning.specs.Tree as T
 use Rattle.meaning.specs.Tree.{kinds, unary_table, levels, Expr, Block, Stmt, Stmts}
@@ -49,7 +49,7 @@ unfolding find
 picked none_left t o e = let z : ◌≡◌ {A = ℕ} 0 1 = cc in absurd (omega arith)
 picked {n} (each {s = s} {c = c} {l = l} h r) t o e = go (eqb t.is (the s)) refl e (picked r t o)
   where
-    go : (b : Bool) → eqb t.is (the s) ≡ b → (if b then (λ _. some (c (as_the s t))) else λ _. find t l) ≡ some o → (find t l ≡ some o → operator_token o ≡ t) →
+    go : (b : Bool) → eqb t.is (the s) ≡ b → (when b then (λ _. some (c (as_the s t))) else λ _. find t l) ≡ some o → (find t l ≡ some o → operator_token o ≡ t) →
         operator_token o ≡ t
     go true g q rest =
         let same : o ≡ c (as_the s t) = cc in
@@ -141,8 +141,8 @@ module _ (ts : List Token) where
         go : (b : Bool) → eqb t.is (the s) ≡ b →
             Agrees tree (option (refuse NotAllowed 0) (λ k. k) (find t c) l) (option (refuse NotAllowed n) (λ k q. k t (suc q)) (lookup (eqb t.is) c') p) →
             Agrees tree
-            (option (refuse NotAllowed 0) (λ k. k) (if b then (λ _. some (k (as_the s t))) else λ _. find t c) l)
-            (option (refuse NotAllowed n) (λ k q. k t (suc q)) (if b then (λ _. some f) else λ _. lookup (eqb t.is) c') p)
+            (option (refuse NotAllowed 0) (λ k. k) (when b then (λ _. some (k (as_the s t))) else λ _. find t c) l)
+            (option (refuse NotAllowed n) (λ k q. k t (suc q)) (when b then (λ _. some f) else λ _. lookup (eqb t.is) c') p)
         go true e rest = rw (as_it_is s t (eqb-true _ _ e)) at (g (as_the s t) l (suc p) h)
         go false e rest = rest
 
@@ -237,12 +237,12 @@ module _ (ts : List Token) where
         (both "-" (λ x l p at. signed (Grammar.neg x) l p at)
         (both "~" (λ x l p at. signed (Grammar.inv x) l p at)
         (both "!" (λ x l p at. signed (Grammar.not x) l p at)
-        (both "number" (λ x l p at. gives at)
-        (both "float number" (λ x l p at. gives at)
-        (both "true" (λ x l p at. gives at)
-        (both "false" (λ x l p at. gives at)
-        (both "name" (λ x l p at. gives at)
-        (both "current_mask" (λ x l p at. gives at)
+        (both "number" (λ x l p at. gives {d = Grammar.number x} at)
+        (both "float number" (λ x l p at. gives {d = Grammar.float_number x} at)
+        (both "true" (λ x l p at. gives {d = Grammar.true x} at)
+        (both "false" (λ x l p at. gives {d = Grammar.false x} at)
+        (both "name" (λ x l p at. gives {d = Grammar.name x} at)
+        (both "current_mask" (λ x l p at. gives {d = Grammar.current_mask x} at)
         (both "(" in_parens none_left)))))))))) l p at
 
   -- An operand and an expression with room r.
@@ -268,10 +268,10 @@ module _ (ts : List Token) where
   block_agrees (t ∷ l) p h = let s = at_token p t l h in rw s.0 (go (eqb t.is (the "block")) s.1)
     where
       go : (b : Bool) → At (suc p) l → Agrees block_of
-          (if◌then◌else◌ {A = Out (List Token) BlockPart} b
+          (when◌then◌else◌ {A = Out (List Token) BlockPart} b
           (λ _. after (one "[" l) (λ x k. after (one "number" k) (λ n k. after (one "]" k) (λ y. give (Grammar.block (as_the "block" t) x n y)))))
           (λ _. ok Grammar.no_block (t ∷ l)))
-          (if◌then◌else◌ {A = Reads Block} b
+          (when◌then◌else◌ {A = Reads Block} b
           (λ _ q. after (expect ts "[" (suc q)) (λ _ q. after (expect ts "number" q) (λ n q. after (expect ts "]" q) (λ _. give (some (n.value, n.place))))))
           (λ _. give none) p)
       go true at =
@@ -300,10 +300,10 @@ module _ (ts : List Token) where
       and_then _ _ (block_agrees l p at) (λ b l p at.
       and_then _ _ (one_agrees "name" l p at) (λ x l p at.
       picks
-      (both ";" (λ c l p at. gives at)
+      (both ";" (λ c l p at. gives {d = Grammar.declaration k b x c} at)
       (both "=" (λ q l p at.
       and_then _ _ (expression_agrees r l p at) (λ e l p at.
-      and_then _ _ (one_agrees ";" l p at) (λ c l p at. gives at)))
+      and_then _ _ (one_agrees ";" l p at) (λ c l p at. gives {d = Grammar.initialised k b x q e c} at)))
       none_left)) l p at))
 
   opening_agrees : (deep : Parse Statement) (deep' : After Stmt) → ((t : Token) (l : List Token) (p : ℕ) → At p l → Agrees statement_tree (deep l) (deep' t p)) →
@@ -323,8 +323,8 @@ module _ (ts : List Token) where
       repeats statements_tree _ _ (λ s l p at. rw (at_first p l at) (go s l p at (eqb (first l).is (the close)))) K Grammar.none_yet l p at
     where
       go : (s : Statements) (l : List Token) (p : ℕ) → At p l → (b : Bool) → Agrees (perhaps statements_tree)
-          (if◌then◌else◌ {A = Out (List Token) (Option Statements)} b (λ _. ok none l) (λ _. after (m l) (λ t. give (some (Grammar.◌⨾◌ s t)))))
-          (if◌then◌else◌ {A = Reads (Option Stmts)} b (λ _. give none) (λ _ q. after (m' q) (λ t. give (some (T.◌⨾◌ (statements_tree s) t)))) p)
+          (when◌then◌else◌ {A = Out (List Token) (Option Statements)} b (λ _. ok none l) (λ _. after (m l) (λ t. give (some (Grammar.◌⨾◌ s t)))))
+          (when◌then◌else◌ {A = Reads (Option Stmts)} b (λ _. give none) (λ _ q. after (m' q) (λ t. give (some (T.◌⨾◌ (statements_tree s) t)))) p)
       go s l p at true = gives at
       go s l p at false = and_then _ _ (h l p at) (λ t k q g. gives g)
 
@@ -348,24 +348,24 @@ module _ (ts : List Token) where
     statement_over_agrees : (l : List Token) (p : ℕ) → At p l → Agrees statement_tree (P.statement_over K r deep inside l) (R.statement_over ts r deep' braced' p)
     unfolding P.statement_over R.statement_over R.assignment ◌⇒◌ kinds statement_tree kind_token kind_of token
     statement_over_agrees l p at = picks
-        (both ";" (λ x l p at. gives at)
-        (both "{" (λ x l p at. and_then _ _ (in_braces (token x) l p at) (λ b l p at. gives at))
+        (both ";" (λ x l p at. gives {d = Grammar.empty x} at)
+        (both "{" (λ x l p at. and_then _ _ (in_braces (token x) l p at) (λ b l p at. gives {d = Grammar.braces x b.0 b.1} at))
         (both "int" (λ x l p at. declaration_agrees r (Grammar.int x) l p at)
         (both "bool" (λ x l p at. declaration_agrees r (Grammar.bool x) l p at)
         (both "float" (λ x l p at. declaration_agrees r (Grammar.float x) l p at)
         (both "name" (λ x l p at.
         and_then _ _ (one_agrees "=" l p at) (λ q l p at.
         and_then _ _ (expression_agrees r l p at) (λ e l p at.
-        and_then _ _ (one_agrees ";" l p at) (λ c l p at. gives at))))
+        and_then _ _ (one_agrees ";" l p at) (λ c l p at. gives {d = Grammar.assignment x q e c} at))))
         (both "if" (λ t l p at.
         and_then _ _ (condition_agrees r l p at) (λ c l p at.
         and_then _ _ (part l p at) (λ s l p at.
         and_then _ _ (one_agrees "else" l p at) (λ v l p at.
-        and_then _ _ (part l p at) (λ u l p at. gives at)))))
+        and_then _ _ (part l p at) (λ u l p at. gives {d = Grammar.if_else t c.0 c.1 c.2 s v u} at)))))
         (both "while" (λ t l p at.
         and_then _ _ (condition_agrees r l p at) (λ c l p at.
-        and_then _ _ (part l p at) (λ s l p at. gives at)))
-        (both "scalar" (λ t l p at. and_then _ _ (part l p at) (λ s l p at. gives at))
+        and_then _ _ (part l p at) (λ s l p at. gives {d = Grammar.while t c.0 c.1 c.2 s} at)))
+        (both "scalar" (λ t l p at. and_then _ _ (part l p at) (λ s l p at. gives {d = Grammar.scalar t s} at))
         none_left))))))))) l p at
 
   statement_agrees : (r : ℕ) (l : List Token) (p : ℕ) → At p l → Agrees statement_tree (P.statement K r l) (R.statement ts r p)

@@ -6,7 +6,7 @@ use native.Mathlib.Omega.{arith}
 use lib.Dec.{eqb}
 use lib.ListN.{length, drop}
 use borrow.Author.Tests.{ne_eqb, eq-eqb}
-use Rattle.meaning.specs.Codes.{if◌then◌else◌}
+use Rattle.meaning.specs.Codes.{when◌then◌else◌}
 use Rattle.meaning.specs.Tokens.{Token, end_at, the, words, marks, numbered, reserved, signs}
 use Rattle.laws.specs.Tokens.{AllIn, the_last, one_more}
 use Rattle.laws.proofs.Tokens.{spelled_some}
@@ -17,7 +17,7 @@ use Rattle.grammar.proofs.Written.{expression_before, block_before, statement_be
 unfoldable pub ends : List Token → ℕ
 unfolding the words marks numbered reserved signs
 ends [] = 0
-ends (t ∷ l) = if eqb t.is (the "end") then (λ _. suc (ends l)) else λ _. ends l
+ends (t ∷ l) = when eqb t.is (the "end") then (λ _. suc (ends l)) else λ _. ends l
 
 operator_ends : {n : ℕ} (o : Operator n) (l : List Token) → ends (operator_token o ∷ l) ≡ ends l
 unfolding ends operator_token

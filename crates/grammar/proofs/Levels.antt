@@ -11,7 +11,7 @@ use lib.ListN.{get_or}
 use borrow.Author.Tests.{eqb-true, eqb-false}
 use Rattle.meaning.specs.declared.Binary.{Binary}
 use Rattle.meaning.specs.declared.Binary.TheVariants as O
-use Rattle.meaning.specs.Codes.{if◌then◌else◌}
+use Rattle.meaning.specs.Codes.{when◌then◌else◌}
 use Rattle.meaning.specs.Tokens.{Token, the, words, marks, numbered, reserved, signs}
 use Rattle.meaning.specs.Tree.{table, levels}
 use Rattle.meaning.specs.Reading.{operator}
@@ -78,7 +78,7 @@ unfolding operator
 looked none_left o e = let z : ◌≡◌ {A = ℕ} 0 1 = cc in absurd (omega arith)
 looked {n} {t} (each {o = a} {os = os} h c) o e = go (eqb t.is (the (table a).0)) refl e (looked c o)
   where
-    go : (b : Bool) → eqb t.is (the (table a).0) ≡ b → (if b then (λ _. some a) else λ _. operator t.is os) ≡ some o →
+    go : (b : Bool) → eqb t.is (the (table a).0) ≡ b → (when b then (λ _. some a) else λ _. operator t.is os) ≡ some o →
         (operator t.is os ≡ some o → Stands n t o) → Stands n t o
     go true g q rest = let same : a ≡ o = cc in rw same at (h (eqb-true _ _ g))
     go false g q rest = rest q

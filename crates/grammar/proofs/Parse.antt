@@ -7,7 +7,7 @@ use mathlib.Core.List.{List, [], ◌∷◌}
 use mathlib.Core.Option.{Option, none, some}
 use lib.Dec.{eqb}
 use Rattle.meaning.specs.declared.Refusal.TheVariants.{NotAllowed, TooDeep}
-use Rattle.meaning.specs.Codes.{ok, refused, Doing, after, ◌>>=◌, ◌>>◌, give, refuse, check, option, repeat, if◌then◌else◌, ◌among◌}
+use Rattle.meaning.specs.Codes.{ok, refused, Doing, after, ◌>>=◌, ◌>>◌, give, refuse, check, option, repeat, when◌then◌else◌, ◌among◌}
 use Rattle.meaning.specs.Tokens.{Token, end_at, the}
 use Rattle.meaning.specs.Reading.{begins}
 use Rattle.grammar.specs.Grammar.{The, every_level, no_level, Operator, or, xor, and, eq, ne, lt, gt, le, ge, add, sub, mul, neg, inv, not, Expression, number, float_number, true, false, name, current_mask, parenthesised, unary, binary, tighter, KindWord, int, bool, float, BlockPart, no_block, block, Statement, empty, braces, declaration, initialised, assignment, if_else, while, scalar, Statements, none_yet, ◌⨾◌, Program}
@@ -31,7 +31,7 @@ Case A = (s : String) × (The s → A)
 -- The one of some cases that a token is.
 unfoldable pub find : {A : Type 0} → Token → List (Case A) → Option A
 find t [] = none
-find t (c ∷ l) = if eqb t.is (the c.0) then (λ _. some (c.1 (as_the c.0 t))) else λ _. find t l
+find t (c ∷ l) = when eqb t.is (the c.0) then (λ _. some (c.1 (as_the c.0 t))) else λ _. find t l
 
 -- The case that the next token is, and what follows it.
 unfoldable pub pick : {A : Type 0} → List (Case (Parse A)) → Parse A
@@ -86,7 +86,7 @@ unfoldable pub a_block : Parse BlockPart
 unfolding one
 a_block [] = ok no_block []
 a_block (t ∷ l) =
-    if eqb t.is (the "block")
+    when eqb t.is (the "block")
     then (λ _. (do x ← one "["; n ← one "number"; y ← one "]"; give (block (as_the "block" t) x n y)) l)
     else λ _. ok no_block (t ∷ l)
 
@@ -98,7 +98,7 @@ opening deep l = (do check ((first l).is among begins) NotAllowed 0; deep) l
 -- One more statement, unless the closing token is next.
 unfoldable pub another : String → Parse Statement → Statements → Parse (Option Statements)
 unfolding first
-another close m s l = if eqb (first l).is (the close) then (λ _. ok none l) else λ _. after (m l) (λ t. give (some (s ⨾ t)))
+another close m s l = when eqb (first l).is (the close) then (λ _. ok none l) else λ _. after (m l) (λ t. give (some (s ⨾ t)))
 
 module _ (K : ℕ) where
   -- "Binary operators group to the left": those of the n tightest levels.

@@ -13,7 +13,7 @@ use lib.Seq.{drop-cons, drop-length}
 use borrow.Author.Tests.{eqb-true, eqb-false}
 use Rattle.meaning.specs.declared.Refusal.TheVariants.{NotAllowed}
 use Rattle.meaning.specs.declared.Binary.{Binary}
-use Rattle.meaning.specs.Codes.{ok, after, give, refuse, option, lookup, if◌then◌else◌, ◌among◌, nesting_limit}
+use Rattle.meaning.specs.Codes.{ok, after, give, refuse, option, lookup, when◌then◌else◌, ◌among◌, nesting_limit}
 use Rattle.meaning.specs.Tokens.{Token, end_at, the, words, marks, numbered, reserved, signs}
 use Rattle.meaning.specs.Tree as T
 use Rattle.meaning.specs.Tree.{kinds, unary_table, levels, Expr, Block, Stmt, Stmts}
@@ -85,7 +85,7 @@ module _ (ts : List Token) where
     chosen _ (case s {f = f} {l = l} n h c) = go (eqb (here p).is (the s)) refl (chosen l c)
       where
         go : (b : Bool) → eqb (here p).is (the s) ≡ b → Picks (lookup (eqb (here p).is) l) →
-            Picks (if b then (λ _. some f) else λ _. lookup (eqb (here p).is) l)
+            Picks (when b then (λ _. some f) else λ _. lookup (eqb (here p).is) l)
         go true e r = let g = eqb-true _ _ e in rw (as_it_is s (here p) g) at (h (as_the s (here p)) (seen s p n g))
         go false e r = r
 
@@ -213,7 +213,7 @@ module _ (ts : List Token) where
   block_yields p = go (eqb (here p).is (the "block")) refl
     where
       go : (b : Bool) → eqb (here p).is (the "block") ≡ b → Yields (ABlock p)
-          (if◌then◌else◌ {A = Reads Block} b
+          (when◌then◌else◌ {A = Reads Block} b
           (λ _ s. after (expect ts "[" (suc s)) (λ _ s. after (expect ts "number" s) (λ n s. after (expect ts "]" s) (λ _. give (some (n.value, n.place))))))
           (λ _. give none) p)
       go true e =
@@ -286,7 +286,7 @@ module _ (ts : List Token) where
     where
       go : (l : Stmts) (q : ℕ) → SomeStatements (suc r) p l q → (b : Bool) →
           Yields (λ o s. SomeStatements (suc r) p (option l (λ a. a) o) s)
-          (if◌then◌else◌ {A = Reads (Option Stmts)} b (λ _. give none) (λ _ s. after (m s) (λ a. give (some (T.◌⨾◌ l a)))) q)
+          (when◌then◌else◌ {A = Reads (Option Stmts)} b (λ _. give none) (λ _ s. after (m s) (λ a. give (some (T.◌⨾◌ l a)))) q)
       go l q h true = well h
       go l q h false =
           followed _ (g q) (λ a s k.
@@ -378,7 +378,7 @@ module _ (ts : List Token) where
   ended p = go (eqb (here p).is (the "end")) refl
     where
       go : (b : Bool) → eqb (here p).is (the "end") ≡ b → Yields (λ t q. ((here p).is ≡ the "end") × (q ≡ suc p))
-          (option {A = After Token} (refuse NotAllowed (here p).place) (λ k s. k (here p) (suc s)) (if b then (λ _. some give) else λ _. none) p)
+          (option {A = After Token} (refuse NotAllowed (here p).place) (λ k s. k (here p) (suc s)) (when b then (λ _. some give) else λ _. none) p)
       go true e = well (eqb-true _ _ e, refl)
       go false e = refusal tt
 

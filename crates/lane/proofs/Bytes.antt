@@ -92,11 +92,11 @@ module _ (k : Kind) where
       let t : suc j * size k ≡ size k + j * size k = omega arith in
       rw (t, drop-drop (j * size k) (size k) l)
 
-getD_load : (k : Kind) (n j : ℕ) (l : List ℕ) → j < n → get_or (load k n l) j 0 ≡ lane_of k (part (j * size k) (size k) l)
+get_or-load : (k : Kind) (n j : ℕ) (l : List ℕ) → j < n → get_or (load k n l) j 0 ≡ lane_of k (part (j * size k) (size k) l)
 unfolding load
-getD_load k zero j l h = absurd (omega arith)
-getD_load k (suc n) zero l h = rw (zero-mul (size k))
-getD_load k (suc n) (suc j) l h = rw (next k j l) (getD_load k n j (drop (size k) l) (omega arith))
+get_or-load k zero j l h = absurd (omega arith)
+get_or-load k (suc n) zero l h = rw (zero-mul (size k))
+get_or-load k (suc n) (suc j) l h = rw (next k j l) (get_or-load k n j (drop (size k) l) (omega arith))
 
 -- What a store of as many lanes as its target has leaves in each.
 module _ (k : Kind) where
@@ -129,7 +129,7 @@ module _ (k : Kind) where
 load-lane : (k : Kind) (n i a : ℕ) (M : Memory) → Reaches i n → lane 0 (load k n (drop a M)) i ≡ lane_of k (part (a + seat n i * size k) (size k) M)
 unfolding lane
 load-lane k n i a M h =
-    rw (length-load k n (drop a M), ← (drop-drop (seat n i * size k) a M)) (getD_load k n (seat n i) (drop a M) h)
+    rw (length-load k n (drop a M), ← (drop-drop (seat n i * size k) a M)) (get_or-load k n (seat n i) (drop a M) h)
 
 -- Reading one variable.
 module _ (Γ : Declarations) (M : Memory) (x : ℕ) where

@@ -1,4 +1,4 @@
--- Demand 3, in the customer's words: from `one-lane` and `no_leak`, which speak of blocks of several lengths.
+-- Demand 3, in the customer's words: from `one_lane` and `no_leak`, which speak of blocks of several lengths.
 use mathlib.Core.Path.{◌≡◌, refl, sym, ap}
 use mathlib.Core.List.{List}
 use Prim.Native.Nat.{ℕ, ◌<◌}
@@ -79,7 +79,7 @@ module _ (n : ℕ) (text : List ℕ) (one : OneLength n text) (P : Program) (Γ 
   lanes_by_themselves free = record {
     accepted = ap (λ (a : Answer). a.code) (judge_is (narrow text) P narrowed.table narrowed.accepted);
     one_lane = λ budget M ends i h. lane_by_itself free budget M ends i (has_each i (omega arith));
-    no_other-lane = λ budget budget' M M' ends ends' i h alike. no_leak text i budget budget' M M' free (has_each i (omega arith)) ends.code ends'.code alike;
+    no_other_lane = λ budget budget' M M' ends ends' i h alike. no_leak text i budget budget' M M' free (has_each i (omega arith)) ends.code ends'.code alike;
   }
 
 pub demand_three : DemandThree

@@ -7,12 +7,12 @@ use Prim.Native.Nat.{ℕ, zero, suc, ◌≤◌, ◌<◌}
 use native.Mathlib.Omega.{arith}
 use lib.Dec.{T}
 use lib.ListN.{length}
-use Rattle.meaning.specs.Codes.{if◌then◌else◌}
+use Rattle.meaning.specs.Codes.{when◌then◌else◌}
 use Rattle.meaning.specs.Program.{Code, Program}
 use Rattle.meaning.specs.Memory.{Value, Mask, truth, Declarations}
 use Rattle.meaning.specs.Running.{value, Event, passes, stores, Ran, stopped, done, Run, and_then, costs, mask_and, mask_and_not, unless_empty, branches, while_left, loop, evaluating, testing, run}
 use Rattle.meaning.specs.Typing.{joined, width}
-use Rattle.laws.specs.Lengths.{Spreadable, Suits, Matched, Fits, fits_nothing, fits-step, fits_put, fits_both, fits_choice, fits_cycle, fits_alone}
+use Rattle.laws.specs.Lengths.{Spreadable, Suits, Matched, Fits, fits_nothing, fits_step, fits_put, fits_both, fits_choice, fits_cycle, fits_alone}
 use Rattle.laws.proofs.Lengths.{joined_many, matched_suits, mask_spreads, suits_body, joined_body}
 use Rattle.laws.proofs.Values.{value-length, length-mask_and, length-mask_and_not}
 use Rattle.lane.specs.Lane.{seat}
@@ -56,7 +56,7 @@ pub record On {S S' : Type 0} (i : ℕ) (R : S → S' → Type 0) (C : ℕ) : Ty
   pub holds : R state state'
 
 module _ {S S' : Type 0} (i : ℕ) (R : S → S' → Type 0) where
-  -- From each such start r′ follows r.
+  -- From each such start r' follows r.
   abbrev pub Follows : ℕ → Run S → Run S' → Type 0
   Follows C r r' = (s : On i R C) → Followed R (r s.mask s.budget s.state) (r' one_true s.budget' s.state')
 
@@ -117,7 +117,7 @@ module _ {S S' : Type 0} (i : ℕ) (R : S → S' → Type 0) where
       go (suc b) (suc c) l = h (on_next s b c s.state s.state' (omega arith) s.holds)
 
   follow_if : (C : ℕ) (g : Bool) (r q : Run S) (r' q' : Run S') → Follows C r r' → Follows C q q'
-      → Follows C (λ m b σ. if g then (λ _. r m b σ) else λ _. q m b σ) (λ m b σ. if g then (λ _. r' m b σ) else λ _. q' m b σ)
+      → Follows C (λ m b σ. when g then (λ _. r m b σ) else λ _. q m b σ) (λ m b σ. when g then (λ _. r' m b σ) else λ _. q' m b σ)
   follow_if C true r q r' q' h k = h
   follow_if C false r q r' q' h k = k
 
@@ -177,7 +177,7 @@ module _ {S S' : Type 0} (i : ℕ) (R : S → S' → Type 0) where
       second : ℕ → S → Ran S
       second b σ = unless_empty q (mask_and_not s.mask v) b σ
 
-      go : (g : Bool) → truth (lane 0 v i) ≡ g → Followed R (and_then first second) (if g then (λ _. r' one_true s.budget' s.state') else λ _. q' one_true s.budget' s.state')
+      go : (g : Bool) → truth (lane 0 v i) ≡ g → Followed R (and_then first second) (when g then (λ _. r' one_true s.budget' s.state') else λ _. q' one_true s.budget' s.state')
       go true e =
           full_after first (r' one_true s.budget' s.state') second (follow_first C v fits here many s r r' h e)
           (λ b c σ τ l w. rest_second C v fits here many (on_next s b c σ τ l w) q rest' e)
@@ -201,7 +201,7 @@ module _ {S S' : Type 0} (i : ℕ) (R : S → S' → Type 0) where
       first : Ran S
       first = unless_empty r (mask_and s.mask v) s.budget s.state
 
-      go : (g : Bool) → truth (lane 0 v i) ≡ g → Followed R first (if g then (λ _. r' one_true s.budget' s.state') else λ _. done s.state' s.budget')
+      go : (g : Bool) → truth (lane 0 v i) ≡ g → Followed R first (when g then (λ _. r' one_true s.budget' s.state') else λ _. done s.state' s.budget')
       go true e = follow_first C v fits here many s r r' h e
       go false e = full_alone first s.state' s.budget' (rest_first C v fits here many s r rest e)
 
@@ -258,7 +258,7 @@ module _ {S S' : Type 0} (Γ : Declarations) (i : ℕ) (all : (x : ℕ) → x < 
   pub run_follows : {C : ℕ} {P : Program} → Fits Γ C P → T (no_alone P) → Reaches i C → Follows i R C (go P) (go' P)
   unfolding run no_alone
   run_follows fits_nothing free here s = (s.holds, s.within)
-  run_follows {C} (fits-step {p = p}) free here s =
+  run_follows {C} (fits_step {p = p}) free here s =
       follow_costs i R C p (λ m b σ. done (effect σ (passes p)) b) (λ m b τ. done (effect' τ (passes p)) b) (λ s. (holds.steps s.state s.state' s.holds p, s.within)) s
   run_follows {C} (fits_put {p = p} {x = x} {e = e} x_in t from to) free here s =
       follow_evaluating here t.matched p s.mask s.size s.on C (λ v m b σ. done (effect σ (stores p x m v)) b) (λ v m b τ. done (effect' τ (stores p x m v)) b)

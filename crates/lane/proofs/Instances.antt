@@ -1,4 +1,4 @@
--- One text, one lane and one pair of memories: what One-lane and demand 3 ask of them and say are computed tests. So an instance is
+-- One text, one lane and one pair of memories: what OneLane and demand 3 ask of them and say are computed tests. So an instance is
 -- proved by computation, and so is a refutation, of a definition that breaks them.
 use mathlib.Core.Path.{◌≡◌, refl}
 use mathlib.Core.Bool.{Bool, true, not, ◌&&◌, ◌||◌}
@@ -77,7 +77,7 @@ module _ (i : ℕ) (text : List ℕ) where
   lane-held M N h = below_each (length (variables text)) _ (λ x l. same_equal _ _ (h.each x l))
 
 module _ (text : List ℕ) (i budget : ℕ) (M N : Memory) where
-  -- What One-lane asks, beside that there is no `scalar`.
+  -- What OneLane asks, beside that there is no `scalar`.
   pub record Asked : Type 0 where
     pub has : HasLane i text
     pub ended : (run text M budget).0.code ≡ 0
@@ -102,7 +102,7 @@ module _ (text : List ℕ) (i budget : ℕ) (M N : Memory) where
   unfolding follows?
   not_followed t f = T_not follows? t (lane-held i text (run text M budget).1 (run (narrow text) N budget).1 f.holds)
 
-  -- The instance of One-lane.
+  -- The instance of OneLane.
   pub instance : OneLane → T (scalar_free text) → T asked? → FollowsLane i text budget M N
   instance one free t = let a = asked t in one text i budget M N free a.has a.ended a.holds
 
@@ -125,7 +125,7 @@ module _ (n : ℕ) (text : List ℕ) where
   unfolding of_one_length?
   of_one_length t = record { accepted = eqb→eq (judge text).code 0 (search and_l); no_scalar = search (and_l, and_r); one_length = one_length (search (and_l, and_r)) }
 
--- The instance of demand 3; and a refutation, of One-lane and of demand 3.
+-- The instance of demand 3; and a refutation, of OneLane and of demand 3.
 module _ (n : ℕ) (text : List ℕ) (i budget : ℕ) (M N : Memory) (of : T (of_one_length? n text)) where
   pub lane_instance : DemandThree → T (ltb i n) → T (asked? text i budget M N) → FollowsLane i text budget M N
   lane_instance demand l t =

@@ -10,7 +10,7 @@ use Rattle.meaning.specs.Running.{lanewise, some_lane, mask_and, mask_and_not}
 use Rattle.meaning.specs.Typing.{joined}
 use Rattle.laws.specs.Lengths.{Spreadable, single, full, Match, equal, left, right}
 use Rattle.laws.proofs.Lengths.{joined_cases}
-use Rattle.laws.proofs.Values.{length-spread, spread_one, spread_full, length_zipWith}
+use Rattle.laws.proofs.Values.{length-spread, spread_one, spread_full, length-zip_with}
 use Rattle.lane.specs.Lane.{seat}
 use Rattle.lane.specs.Values.{lane}
 
@@ -48,12 +48,12 @@ module _ {A : Type 0} where
 
 module _ {A B D : Type 0} (f : A → B → D) where
   module _ (a : A) (b : B) (d : D) where
-    getD_zipWith : (j : ℕ) (u : List A) (v : List B) → length u ≡ length v → j < length v → get_or (zip_with f u v) j d ≡ f (get_or u j a) (get_or v j b)
+    get_or-zip_with : (j : ℕ) (u : List A) (v : List B) → length u ≡ length v → j < length v → get_or (zip_with f u v) j d ≡ f (get_or u j a) (get_or v j b)
     unfolding zip_with
-    getD_zipWith j [] v e h = absurd (omega arith)
-    getD_zipWith j (x ∷ u) [] e h = absurd (omega arith)
-    getD_zipWith zero (x ∷ u) (y ∷ v) e h = refl
-    getD_zipWith (suc j) (x ∷ u) (y ∷ v) e h = getD_zipWith j u v (omega arith) (omega arith)
+    get_or-zip_with j [] v e h = absurd (omega arith)
+    get_or-zip_with j (x ∷ u) [] e h = absurd (omega arith)
+    get_or-zip_with zero (x ∷ u) (y ∷ v) e h = refl
+    get_or-zip_with (suc j) (x ∷ u) (y ∷ v) e h = get_or-zip_with j u v (omega arith) (omega arith)
 
     -- Of two lists, one of them spread to the length of the other.
     module _ (i : ℕ) (u : List A) (v : List B) where
@@ -61,15 +61,15 @@ module _ {A B D : Type 0} (f : A → B → D) where
       unfolding lane
       lane_zip_left t h =
           let e : length (spread (length v) u) ≡ length v = length-spread (length v) u t in
-          rw (length_zipWith f (spread (length v) u) v e)
-          (getD_zipWith (seat (length v) i) (spread (length v) u) v e h ∙ ap (λ (x : A). f x (lane b v i)) (lane-spread a (length v) i u t h))
+          rw (length-zip_with f (spread (length v) u) v e)
+          (get_or-zip_with (seat (length v) i) (spread (length v) u) v e h ∙ ap (λ (x : A). f x (lane b v i)) (lane-spread a (length v) i u t h))
 
       lane_zip_right : Spreadable (length u) (length v) → Reaches i (length u) → lane d (zip_with f u (spread (length u) v)) i ≡ f (lane a u i) (lane b v i)
       unfolding lane
       lane_zip_right t h =
           let e : length (spread (length u) v) ≡ length u = length-spread (length u) v t in
-          rw (length_zipWith f u (spread (length u) v) (sym e), e)
-          (getD_zipWith (seat (length u) i) u (spread (length u) v) (sym e) (rw e h) ∙ ap (λ (y : B). f (lane a u i) y) (lane-spread b (length u) i v t h))
+          rw (length-zip_with f u (spread (length u) v) (sym e), e)
+          (get_or-zip_with (seat (length u) i) u (spread (length u) v) (sym e) (rw e h) ∙ ap (λ (y : B). f (lane a u i) y) (lane-spread b (length u) i v t h))
 
   -- An operator on two values, one of them perhaps replicated.
   module _ (u : List A) (v : List B) where

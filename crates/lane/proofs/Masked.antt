@@ -7,12 +7,12 @@ use Prim.Native.Nat.{ℕ, zero, suc, ◌≤◌, ◌<◌}
 use native.Mathlib.Omega.{arith}
 use lib.Dec.{T}
 use lib.ListN.{length}
-use Rattle.meaning.specs.Codes.{if◌then◌else◌}
+use Rattle.meaning.specs.Codes.{when◌then◌else◌}
 use Rattle.meaning.specs.Program.{Code, Program}
 use Rattle.meaning.specs.Memory.{Value, Mask, truth, Declarations}
 use Rattle.meaning.specs.Running.{value, Event, passes, stores, Ran, stopped, done, Run, and_then, costs, some_lane, mask_and, mask_and_not, unless_empty, branches, while_left, loop, evaluating, testing, run}
 use Rattle.meaning.specs.Typing.{joined, width}
-use Rattle.laws.specs.Lengths.{Spreadable, Suits, Matched, Fits, fits_nothing, fits-step, fits_put, fits_both, fits_choice, fits_cycle, fits_alone}
+use Rattle.laws.specs.Lengths.{Spreadable, Suits, Matched, Fits, fits_nothing, fits_step, fits_put, fits_both, fits_choice, fits_cycle, fits_alone}
 use Rattle.laws.proofs.Lengths.{joined_many, matched_suits, mask_spreads, suits_body, joined_body}
 use Rattle.laws.proofs.Values.{value-length, length-mask_and, length-mask_and_not}
 use Rattle.lane.specs.Values.{lane}
@@ -79,11 +79,11 @@ module _ {S : Type 0} (i : ℕ) (I : S → Type 0) where
   unfolding unless_empty
   quiet_unless C r h s = go (some_lane s.mask)
     where
-      go : (g : Bool) → Leaves I s.bound (if g then (λ _. r s.mask s.budget s.state) else λ _. done s.state s.budget)
+      go : (g : Bool) → Leaves I s.bound (when g then (λ _. r s.mask s.budget s.state) else λ _. done s.state s.budget)
       go true = h s
       go false = (s.has, s.within)
 
-  quiet_if : (C : ℕ) (g : Bool) (r q : Run S) → Quiet C r → Quiet C q → Quiet C (λ m b σ. if g then (λ _. r m b σ) else λ _. q m b σ)
+  quiet_if : (C : ℕ) (g : Bool) (r q : Run S) → Quiet C r → Quiet C q → Quiet C (λ m b σ. when g then (λ _. r m b σ) else λ _. q m b σ)
   quiet_if C true r q h k = h
   quiet_if C false r q h k = k
 
@@ -161,7 +161,7 @@ module _ {S : Type 0} (Γ : Declarations) (i : ℕ) (get : S → ℕ → Value) 
   pub run_quiet : {C : ℕ} {P : Program} → Fits Γ C P → T (no_alone P) → Reaches i C → Quiet i I C (go P)
   unfolding run no_alone
   run_quiet fits_nothing free here s = (s.has, s.within)
-  run_quiet {C} (fits-step {p = p}) free here s =
+  run_quiet {C} (fits_step {p = p}) free here s =
       quiet_costs i I C p (λ m b σ. done (effect σ (passes p)) b) (λ s. (still.passed s.state s.has p, s.within)) s
   run_quiet {C} (fits_put {p = p} {x = x} {e = e} x_in t from to) free here s =
       quiet_evaluating t.matched p s.mask s.size C (λ v m b σ. done (effect σ (stores p x m v)) b)

@@ -9,7 +9,7 @@ use native.Mathlib.Omega.{arith}
 use lib.Dec.{T, T_not, eqb, leb, eqb→eq, leb→le}
 use lib.ListN.{length, take, drop, length-append, take-append-drop}
 use lib.Seq.{length-take-le, take_at, drop_at}
-use Rattle.meaning.specs.Codes.{if◌then◌else◌, option, lookup, name_limit, number_limit, float_limit}
+use Rattle.meaning.specs.Codes.{when◌then◌else◌, option, lookup, name_limit, number_limit, float_limit}
 use Rattle.meaning.specs.Tokens.{bytes, the, signs, numbered, words, marks, space, digit, letter, letter_or_digit, in_line, run_of, starts, equal, decimal, good_number, Piece, over, bad, gap, token, word, digits, constant, numeral, sign, piece}
 use Rattle.meaning.specs.Floats.{whole_float}
 use Rattle.laws.proofs.Bytes.{run_within, run_length, equal_same}
@@ -33,7 +33,7 @@ module _ (p : ℕ → Bool) where
   run_stops [] = tt
   run_stops (c ∷ s) = go (p c) refl (run_stops s)
     where
-      go : (b : Bool) → p c ≡ b → Stops p (drop (run_of p s) s) → Stops p (drop (if b then (λ _. suc (run_of p s)) else λ _. 0) (c ∷ s))
+      go : (b : Bool) → p c ≡ b → Stops p (drop (run_of p s) s) → Stops p (drop (when b then (λ _. suc (run_of p s)) else λ _. 0) (c ∷ s))
       go true e h = h
       go false e h = rw e tt
 
@@ -42,7 +42,7 @@ module _ (p : ℕ → Bool) where
   run_none [] h = refl
   run_none (c ∷ r) h = go (p c) h
     where
-      go : (b : Bool) → T (not b) → (if b then (λ _. suc (run_of p r)) else λ _. 0) ≡ 0
+      go : (b : Bool) → T (not b) → (when b then (λ _. suc (run_of p r)) else λ _. 0) ≡ 0
       go true h = absurd h
       go false h = refl
 
@@ -53,7 +53,7 @@ module _ (p : ℕ → Bool) where
   run_before (c ∷ s) r h = go (p c) refl (run_before s r h)
     where
       go : (b : Bool) → p c ≡ b → run_of p (take (run_of p s) s ++ r) ≡ run_of p s
-          → run_of p (take (if b then (λ _. suc (run_of p s)) else λ _. 0) (c ∷ s) ++ r) ≡ (if b then (λ _. suc (run_of p s)) else λ _. 0)
+          → run_of p (take (when b then (λ _. suc (run_of p s)) else λ _. 0) (c ∷ s) ++ r) ≡ (when b then (λ _. suc (run_of p s)) else λ _. 0)
       go true e k = rw (e, k)
       go false e k = run_none r h
 
@@ -200,7 +200,7 @@ word_takes : (x : List ℕ) (n : ℕ) → Takes (word x) n → length x ≡ n
 unfolding word
 word_takes x n h = go (lookup (λ r. equal (bytes r) x) words) (leb (length x) name_limit) h
   where
-    go : (o : Option ℕ) (b : Bool) → Takes (option (if b then (λ _. token (the "name") 0 x (length x)) else λ _. bad) (λ k. token k 0 [] (length x)) o) n → length x ≡ n
+    go : (o : Option ℕ) (b : Bool) → Takes (option (when b then (λ _. token (the "name") 0 x (length x)) else λ _. bad) (λ k. token k 0 [] (length x)) o) n → length x ≡ n
     go none true h = h
     go none false h = absurd h
     go (some k) b h = h
@@ -209,7 +209,7 @@ digits_takes : (x : List ℕ) (n : ℕ) → Takes (digits x) n → length x ≡ 
 unfolding digits
 digits_takes x n h = go (good_number number_limit x) h
   where
-    go : (b : Bool) → Takes (if b then (λ _. token (the "number") (decimal 0 x) [] (length x)) else λ _. bad) n → length x ≡ n
+    go : (b : Bool) → Takes (when b then (λ _. token (the "number") (decimal 0 x) [] (length x)) else λ _. bad) n → length x ≡ n
     go true h = h
     go false h = absurd h
 
@@ -223,7 +223,7 @@ unfolding constant
 constants x t = go (good_number float_limit x) (equal (bytes "0") t) refl
   where
     go : (a b : Bool) → equal (bytes "0") t ≡ b
-        → Constants x t (if a && b then (λ _. token (the "float number") (whole_float (decimal 0 x)) [] (length x + 2)) else λ _. bad)
+        → Constants x t (when a && b then (λ _. token (the "float number") (whole_float (decimal 0 x)) [] (length x + 2)) else λ _. bad)
     go true true z = of_float (equal_same (bytes "0") t z)
     go true false z = no_constant
     go false b z = no_constant
@@ -256,7 +256,7 @@ unfolding sign short
 sign_takes [] s n t h = absurd h
 sign_takes ((r, k) ∷ l) s n t h = go (starts (bytes r) s) refl (sign_takes l s n (and_r (eqb (length (bytes r)) 1 || eqb (length (bytes r)) 2) (short l) t)) h
   where
-    go : (b : Bool) → starts (bytes r) s ≡ b → (Takes (sign l s) n → Signed s n) → Takes (if b then (λ _. token k 0 [] (length (bytes r))) else λ _. sign l s) n → Signed s n
+    go : (b : Bool) → starts (bytes r) s ≡ b → (Takes (sign l s) n → Signed s n) → Takes (when b then (λ _. token k 0 [] (length (bytes r))) else λ _. sign l s) n → Signed s n
     go true e f h = record {
       size = or_cases (eqb (length (bytes r)) 1) (eqb (length (bytes r)) 2) (λ u. just_one (sym (eqb→eq (length (bytes r)) 1 u) ∙ h)) (λ u. just_two (sym (eqb→eq (length (bytes r)) 2 u) ∙ h))
           (and_l (eqb (length (bytes r)) 1 || eqb (length (bytes r)) 2) (short l) t);
@@ -460,7 +460,7 @@ word_value : (x : List ℕ) (i v : ℕ) (y : List ℕ) (n : ℕ) → word x ≡ 
 unfolding word
 word_value x i v y n e = go (lookup (λ r. equal (bytes r) x) words) (leb (length x) name_limit) e
   where
-    go : (o : Option ℕ) (b : Bool) → option (if b then (λ _. token (the "name") 0 x (length x)) else λ _. bad) (λ k. token k 0 [] (length x)) o ≡ token i v y n → v ≡ 0
+    go : (o : Option ℕ) (b : Bool) → option (when b then (λ _. token (the "name") 0 x (length x)) else λ _. bad) (λ k. token k 0 [] (length x)) o ≡ token i v y n → v ≡ 0
     go none true e = cc
     go none false e = cc
     go (some k) b e = cc
@@ -470,7 +470,7 @@ unfolding sign
 sign-value [] s i v y n e = cc
 sign-value ((r, k) ∷ l) s i v y n e = go (starts (bytes r) s) (sign-value l s i v y n) e
   where
-    go : (b : Bool) → (sign l s ≡ token i v y n → v ≡ 0) → (if b then (λ _. token k 0 [] (length (bytes r))) else λ _. sign l s) ≡ token i v y n → v ≡ 0
+    go : (b : Bool) → (sign l s ≡ token i v y n → v ≡ 0) → (when b then (λ _. token k 0 [] (length (bytes r))) else λ _. sign l s) ≡ token i v y n → v ≡ 0
     go true f e = cc
     go false f e = f e
 
@@ -481,7 +481,7 @@ number_digits c s t p i v x n e = go (good_number number_limit y) e
     y : List ℕ
     y = c ∷ take (run_of digit s) s
 
-    go : (b : Bool) → (if b then (λ _. token (the "number") (decimal 0 y) [] (length y)) else λ _. bad) ≡ token i v x n → Number (c ∷ s) x n
+    go : (b : Bool) → (when b then (λ _. token (the "number") (decimal 0 y) [] (length y)) else λ _. bad) ≡ token i v x n → Number (c ∷ s) x n
     go true e =
         let size : suc (run_of digit s) ≡ n = ap suc (sym (length-take-le (run_of digit s) s (run_within digit s))) ∙ cc in
         record { unspelled = cc; begins = λ r. two_digits t tt; stops = subst (λ (n : ℕ). Stops digit (drop n (c ∷ s))) size (run_stops digit s); no_point = rw (← size) p }

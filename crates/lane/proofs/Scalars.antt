@@ -11,7 +11,7 @@ use lib.ListN.{length, get_or}
 use Rattle.meaning.specs.declared.Kind.{Kind}
 use Rattle.meaning.specs.declared.Kind.TheVariants.{Int as int, Bool as bool, Float as float}
 use Rattle.meaning.specs.declared.Refusal.TheVariants.{NotAllowed}
-use Rattle.meaning.specs.Codes.{Out, ok, refused, Doing, after, ◌>>=◌, ◌>>◌, give, refuse, check, option, lookup, if◌then◌else◌, ◌among◌, nesting_limit}
+use Rattle.meaning.specs.Codes.{Out, ok, refused, Doing, after, ◌>>=◌, ◌>>◌, give, refuse, check, option, lookup, when◌then◌else◌, ◌among◌, nesting_limit}
 use Rattle.meaning.specs.Tokens.{Token, end_at, the, words, marks, numbered, reserved, signs}
 use Rattle.meaning.specs.Tree as T
 use Rattle.meaning.specs.Tree.{Name, Expr, Block, Stmt, empty, braces, declare, assign, if_else, while, Stmts, none_yet, ◌⨾◌}
@@ -64,7 +64,7 @@ module _ (ts : List Token) (free : (at : ℕ) → T (B.not (eqb (get_or ts at (e
       found o = option (refuse NotAllowed t.place) (λ k. do next ts; k t) o at
 
       pick : (n : ℕ) (k : After A) (l : List (ℕ × After A)) → (T (eqb t.is n) → Gives Q (k t (suc at))) → Gives Q (found (lookup (eqb t.is) l))
-          → (b : Bool) → eqb t.is n ≡ b → Gives Q (found (if b then (λ _. some k) else λ _. lookup (eqb t.is) l))
+          → (b : Bool) → eqb t.is n ≡ b → Gives Q (found (when b then (λ _. some k) else λ _. lookup (eqb t.is) l))
       pick n k l h r true e = h (rw e tt)
       pick n k l h r false e = r
 
@@ -94,7 +94,7 @@ module _ (ts : List Token) (free : (at : ℕ) → T (B.not (eqb (get_or ts at (e
   plain_another close m h l at q = go (eqb (get_or ts at (end_at 0)).is (the close))
     where
       either : Bool → Reads (Option Stmts)
-      either b = if b then (λ _. give none) else λ _. do s ← m; give (some (l ⨾ s))
+      either b = when b then (λ _. give none) else λ _. do s ← m; give (some (l ⨾ s))
 
       go : (b : Bool) → Gives (λ o. Plains (option l (λ l'. l') o)) (either b at)
       go true = well q

@@ -7,7 +7,7 @@ use native.Mathlib.Omega.{arith}
 use lib.Dec.{T, leb, leb→le, le→leb}
 use lib.ListN.{length}
 use Rattle.meaning.specs.declared.Refusal.TheVariants.{MemoryTooShort}
-use Rattle.meaning.specs.Codes.{code, Out, ok, refused, if◌then◌else◌, ◌among◌}
+use Rattle.meaning.specs.Codes.{code, Out, ok, refused, when◌then◌else◌, ◌among◌}
 use Rattle.meaning.specs.Tokens.{Token, the, lexed}
 use Rattle.meaning.specs.Tree.{Stmts}
 use Rattle.meaning.specs.Reading.{read}
@@ -59,7 +59,7 @@ ended_of P Γ budget M e = room (leb (need Γ) (length M)) refl e
     ends (done M' left) z l e = record { room = l; end = M'; left = left; is = z }
 
     room : (b : Bool) → leb (need Γ) (length M) ≡ b
-        → (if b then (λ _. ended (need Γ) budget (ran P Γ budget M)) else λ _. (answer (code MemoryTooShort) 0 (need Γ) 0, M)).0.code ≡ 0 → Ended P Γ budget M
+        → (when b then (λ _. ended (need Γ) budget (ran P Γ budget M)) else λ _. (answer (code MemoryTooShort) 0 (need Γ) 0, M)).0.code ≡ 0 → Ended P Γ budget M
     room true z e = ends (ran P Γ budget M) refl (leb→le (need Γ) (length M) (rw z tt)) e
     room false z e = absurd (omega arith)
 

@@ -10,7 +10,7 @@ use lib.Dec.{eqb, leb, eqb→eq, leb→le}
 use lib.ListN.{length, take, drop, replicate, length-append, length-drop, length-replicate}
 use lib.Seq.{length-take-le, drop_at, drop-drop, drop-append-add}
 use Rattle.meaning.specs.declared.Refusal.TheVariants.{TextTooLong}
-use Rattle.meaning.specs.Codes.{Out, ok, refused, after, give, repeat, option, if◌then◌else◌, text_limit, number_limit}
+use Rattle.meaning.specs.Codes.{Out, ok, refused, after, give, repeat, option, when◌then◌else◌, text_limit}
 use Rattle.meaning.specs.Tokens.{Token, end_at, the, space, digit, run_of, starts, bytes, decimal, good_number, digits, Piece, over, bad, gap, token, piece, turn, tokens, lexed}
 use Rattle.laws.proofs.The.{float_number_not_number}
 use Rattle.lane.specs.Narrow.{is_block, one_padded, narrow_piece, narrow_from, narrow}
@@ -89,7 +89,7 @@ after_spaces {p} {q} {ts} (c ∷ r) t = go (space c) refl
     first {p} {s} {ts} n (skips {n = m} e t) z = let y : m ≡ n = cc in subst (λ (n : ℕ). Lexes (p + n) (drop n s) ts q) y t
     first n (takes e t) z = let y : ◌≡◌ {A = ℕ} 0 1 = cc in absurd (omega arith)
 
-    go : (b : Bool) → space c ≡ b → Lexes (p + (if b then (λ _. suc (run_of space r)) else λ _. 0)) (drop (if b then (λ _. suc (run_of space r)) else λ _. 0) (c ∷ r)) ts q
+    go : (b : Bool) → space c ≡ b → Lexes (p + (when b then (λ _. suc (run_of space r)) else λ _. 0)) (drop (when b then (λ _. suc (run_of space r)) else λ _. 0) (c ∷ r)) ts q
     go true e = first (suc (run_of space r)) t (piece-space c r (rw e tt))
     go false e = subst (λ (p : ℕ). Lexes p (c ∷ r) ts q) (sym (add-zero p)) t
 
@@ -147,7 +147,7 @@ near_narrow (suc f) j k s = go (piece s) refl
     go (gap n) e = near_take n s (narrow_from f j k (drop n s)) (gap_whole s n e).positive (gap_whole s n e).within
     go (token i v x n) e = pick (is_block j k i) refl (leb 2 v) refl
       where
-        pick : (a : Bool) → is_block j k i ≡ a → (b : Bool) → leb 2 v ≡ b → Near s ((if a && b then (λ _. one_padded n) else λ _. take n s) ++ narrow_from f k i (drop n s))
+        pick : (a : Bool) → is_block j k i ≡ a → (b : Bool) → leb 2 v ≡ b → Near s ((when a && b then (λ _. one_padded n) else λ _. take n s) ++ narrow_from f k i (drop n s))
         pick true y true z = (number-piece s i v x n e (block_number j k i y) (leb→le 2 v (rw z tt))).begins _
         pick true y false z = near_take n s (narrow_from f k i (drop n s)) (token-whole s i v x n e).positive (token-whole s i v x n e).within
         pick false y b z = near_take n s (narrow_from f k i (drop n s)) (token-whole s i v x n e).positive (token-whole s i v x n e).within
@@ -169,7 +169,7 @@ length-narrow_from (suc f) j k s = go (λ j k s. length-narrow_from f j k s) (pi
     go rest (gap n) e = first n (narrow_from f j k (drop n s)) (gap_whole s n e).within (rest j k (drop n s))
     go rest (token i v x n) e = pick (is_block j k i && leb 2 v)
       where
-        pick : (b : Bool) → length ((if b then (λ _. one_padded n) else λ _. take n s) ++ narrow_from f k i (drop n s)) ≡ length s
+        pick : (b : Bool) → length ((when b then (λ _. one_padded n) else λ _. take n s) ++ narrow_from f k i (drop n s)) ≡ length s
         pick true = padded n (narrow_from f k i (drop n s)) (token-whole s i v x n e).positive (token-whole s i v x n e).within (rest k i (drop n s))
         pick false = first n (narrow_from f k i (drop n s)) (token-whole s i v x n e).within (rest k i (drop n s))
 
@@ -195,7 +195,7 @@ module _ (s : List ℕ) (n : ℕ) (w : Whole s n) (r : List ℕ) where
       no_point (suc m) = refl
 
 narrow_token_is : (j k i p v : ℕ) (x : List ℕ) (a b : Bool) → is_block j k i ≡ a → leb 2 v ≡ b
-    → narrow_token j k (record { is = i; place = p; value = v; spelled = x }) ≡ record { is = i; place = p; value = if a && b then (λ _. 1) else λ _. v; spelled = x }
+    → narrow_token j k (record { is = i; place = p; value = v; spelled = x }) ≡ record { is = i; place = p; value = when a && b then (λ _. 1) else λ _. v; spelled = x }
 unfolding narrow_token narrow_length
 narrow_token_is j k i p v x true true y z = rw (y, z)
 narrow_token_is j k i p v x true false y z = rw (y, z)
@@ -225,7 +225,7 @@ lexes_narrow (takes {p = p} {q = q} {i = i} {v = v} {n = n} {x = x} {s = s} {ts 
     near = near_narrow f k i (drop n s)
 
     go : (a : Bool) → is_block j k i ≡ a → (b : Bool) → leb 2 v ≡ b → Lexes (p + n) r (narrow_tokens k i ts) q
-        → Lexes p ((if a && b then (λ _. one_padded n) else λ _. take n s) ++ r) (narrow_token j k (record { is = i; place = p; value = v; spelled = x }) ∷ narrow_tokens k i ts) q
+        → Lexes p ((when a && b then (λ _. one_padded n) else λ _. take n s) ++ r) (narrow_token j k (record { is = i; place = p; value = v; spelled = x }) ∷ narrow_tokens k i ts) q
     go true y true z u =
         let is : i ≡ the "number" = block_number j k i y in
         let m : Number s x n = number-piece s i v x n e is (leb→le 2 v (rw z tt)) in
@@ -264,7 +264,7 @@ tokens-narrow text ts q e = go (repeat (suc (length text)) (at text) [] 0) refl 
 
 -- "At most 4,096 bytes."
 abbrev limited : ℕ → Out ℕ (List Token) → Out ℕ (List Token)
-limited n o = if leb n text_limit then (λ _. o) else λ _. refused TextTooLong 0
+limited n o = when leb n text_limit then (λ _. o) else λ _. refused TextTooLong 0
 
 lexed_is : (text : List ℕ) → lexed text ≡ limited (length text) (tokens text)
 unfolding lexed
@@ -274,7 +274,7 @@ pub lexed-narrow : (text : List ℕ) (ts : List Token) (q : ℕ) → lexed text 
 lexed-narrow text ts q e =
     lexed_is (narrow text) ∙ ap (λ (n : ℕ). limited n (tokens (narrow text))) (length-narrow text) ∙ go (leb (length text) text_limit) (sym (lexed_is text) ∙ e)
   where
-    go : (b : Bool) → (if b then (λ _. tokens text) else λ _. refused TextTooLong 0) ≡ ok ts q
-        → (if b then (λ _. tokens (narrow text)) else λ _. refused TextTooLong 0) ≡ ok (narrow_tokens (the "end") (the "end") ts) q
+    go : (b : Bool) → (when b then (λ _. tokens text) else λ _. refused TextTooLong 0) ≡ ok ts q
+        → (when b then (λ _. tokens (narrow text)) else λ _. refused TextTooLong 0) ≡ ok (narrow_tokens (the "end") (the "end") ts) q
     go true e = tokens-narrow text ts q e
     go false e = let y : ◌≡◌ {A = ℕ} 0 1 = cc in absurd (omega arith)

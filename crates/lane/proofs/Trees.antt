@@ -12,10 +12,10 @@ use lib.ListN.{length, get_or, get_or-map}
 use Rattle.meaning.specs.declared.Kind.{Kind}
 use Rattle.meaning.specs.declared.Kind.TheVariants.{Int as int, Bool as bool, Float as float}
 use Rattle.meaning.specs.declared.Refusal.TheVariants.{NotAllowed}
-use Rattle.meaning.specs.Codes.{Out, ◌>>=◌, ◌>>◌, give, refuse, repeat, option, lookup, if◌then◌else◌, ◌among◌, nesting_limit}
+use Rattle.meaning.specs.Codes.{Out, ◌>>=◌, ◌>>◌, give, refuse, repeat, option, lookup, when◌then◌else◌, ◌among◌, nesting_limit}
 use Rattle.meaning.specs.Tokens.{Token, end_at, the, words, marks, numbered, reserved, signs}
 use Rattle.meaning.specs.Tree as M
-use Rattle.meaning.specs.declared.Unary.TheVariants.{Neg as neg, Inv as inv, Not as not}
+use Rattle.meaning.specs.declared.Unary.TheVariants.{Neg as neg, Inv as inv, Not as unary_not}
 use Rattle.meaning.specs.declared.Binary.{Binary}
 use Rattle.meaning.specs.declared.Binary.TheVariants.{Or as or, Xor as xor, And as and, Eq as eq, Ne as ne, Lt as lt, Gt as gt, Le as le, Ge as ge, Add as add, Sub as sub, Mul as mul}
 use Rattle.meaning.specs.Tree.{table, unary_table, levels, Expr, number, float_number, boolean, name, current_mask, unary, binary, Block, Stmt, empty, braces, declare, assign, if_else, while, scalar, Stmts, none_yet, ◌⨾◌}
@@ -31,7 +31,7 @@ module _ (j k : ℕ) (t : Token) where
   unfolding narrow_token
   same_is = go (is_block j k t.is)
     where
-      go : (b : Bool) → (if b then (λ _. record { is = t.is; place = t.place; value = narrow_length t.value; spelled = t.spelled }) else λ _. t).is ≡ t.is
+      go : (b : Bool) → (when b then (λ _. record { is = t.is; place = t.place; value = narrow_length t.value; spelled = t.spelled }) else λ _. t).is ≡ t.is
       go true = refl
       go false = refl
 
@@ -39,7 +39,7 @@ module _ (j k : ℕ) (t : Token) where
   unfolding narrow_token is_block
   same_token h = go (eqb j (the "block")) (eqb k (the "[")) _ h
     where
-      go : (a b c : Bool) → T (B.not b) → (if a && b && c then (λ _. record { is = t.is; place = t.place; value = narrow_length t.value; spelled = t.spelled }) else λ _. t) ≡ t
+      go : (a b c : Bool) → T (B.not b) → (when a && b && c then (λ _. record { is = t.is; place = t.place; value = narrow_length t.value; spelled = t.spelled }) else λ _. t) ≡ t
       go true true c h = absurd h
       go true false c h = refl
       go false b c h = refl
@@ -54,7 +54,7 @@ pub end_stays : (j k q : ℕ) → narrow_token j k (end_at q) ≡ end_at q
 unfolding narrow_token end_at narrow_length
 end_stays j k q = go (is_block j k (the "end"))
   where
-    go : (b : Bool) → (if b then (λ _. record { is = the "end"; place = q; value = narrow_length 0; spelled = [] }) else λ _. end_at q) ≡ end_at q
+    go : (b : Bool) → (when b then (λ _. record { is = the "end"; place = q; value = narrow_length 0; spelled = [] }) else λ _. end_at q) ≡ end_at q
     go true = refl
     go false = refl
 
@@ -95,7 +95,7 @@ operator-other k [] o z = let y : ◌≡◌ {A = ℕ} 0 1 = cc in absurd (omega 
 operator-other k (b ∷ os) o z = go (eqb k (the (table b).0)) refl (operator-other k os o) z
   where
     go : (c : Bool) → eqb k (the (table b).0) ≡ c → (operator k os ≡ some o → T (B.not (eqb k (the "["))))
-        → (if c then (λ _. some b) else λ _. lookup (eqb k) (map (λ o. (the (table o).0, o)) os)) ≡ some o → T (B.not (eqb k (the "[")))
+        → (when c then (λ _. some b) else λ _. lookup (eqb k) (map (λ o. (the (table o).0, o)) os)) ≡ some o → T (B.not (eqb k (the "[")))
     go true e h z = rw (eqb→eq k (the (table b).0) (rw e tt)) (sign-other b)
     go false e h z = h z
 
@@ -160,7 +160,7 @@ module _ (ts : List Token) where
 
       pick : (n : ℕ) (k k' : After A) (l l' : List (ℕ × After A)) → T (B.not (eqb n (the "["))) → ((t : Token) → Reading g (k t) (k' t))
           → Beside (Read g) (at_token ts at t (lookup (eqb t.is) l)) (at_token thin at t (lookup (eqb t.is) l')) → (b : Bool) → eqb t.is n ≡ b
-          → Beside (Read g) (at_token ts at t (if b then (λ _. some k) else λ _. lookup (eqb t.is) l)) (at_token thin at t (if b then (λ _. some k') else λ _. lookup (eqb t.is) l'))
+          → Beside (Read g) (at_token ts at t (when b then (λ _. some k) else λ _. lookup (eqb t.is) l)) (at_token thin at t (when b then (λ _. some k') else λ _. lookup (eqb t.is) l'))
       pick n k k' l l' other h r true e = h t (suc at) (rw (eqb→eq t.is n (rw e tt)) other)
       pick n k k' l l' other h r false e = r
 
@@ -218,7 +218,7 @@ module _ (ts : List Token) where
   reading_operand deep deep' parens parens' h k = reading_choose (
       case tt (λ t. reading_then (deep t) (deep' t) _ _ (h t) (λ e. reading_give (λ e. e) (unary t.place neg e)))
       (case tt (λ t. reading_then (deep t) (deep' t) _ _ (h t) (λ e. reading_give (λ e. e) (unary t.place inv e)))
-      (case tt (λ t. reading_then (deep t) (deep' t) _ _ (h t) (λ e. reading_give (λ e. e) (unary t.place not e)))
+      (case tt (λ t. reading_then (deep t) (deep' t) _ _ (h t) (λ e. reading_give (λ e. e) (unary t.place unary_not e)))
       (case tt (λ t. reading_give (λ e. e) (number t.value))
       (case tt (λ t. reading_give (λ e. e) (float_number t.value))
       (case tt (λ t. reading_give (λ e. e) (boolean true))
@@ -266,7 +266,7 @@ module _ (ts : List Token) where
   reading_taken s at = rw (is_at at) (go (eqb (full_at at).is (the s)) refl)
     where
       go : (b : Bool) → eqb (full_at at).is (the s) ≡ b
-          → Beside (Taken s at) (at_token ts at (full_at at) (if b then (λ _. some give) else λ _. none)) (at_token thin at (thin_at at) (if b then (λ _. some give) else λ _. none))
+          → Beside (Taken s at) (at_token ts at (full_at at) (when b then (λ _. some give) else λ _. none)) (at_token thin at (thin_at at) (when b then (λ _. some give) else λ _. none))
       go true e = both_well (record { this = refl; this' = refl; past = refl; past' = refl; sort = eqb→eq (full_at at).is (the s) (rw e tt) })
       go false e = refusal tt
 
@@ -281,7 +281,7 @@ module _ (ts : List Token) where
   reading_block at c = rw (clear_at at c) (go (eqb (full_at at).is (the "block")) refl)
     where
       either : List Token → Bool → Reads Block
-      either us b = if b then (λ _. do next us; expect us "["; n ← expect us "number"; expect us "]"; give (some (n.value, n.place))) else λ _. give none
+      either us b = when b then (λ _. do next us; expect us "["; n ← expect us "number"; expect us "]"; give (some (n.value, n.place))) else λ _. give none
 
       go : (b : Bool) → eqb (full_at at).is (the "block") ≡ b → Beside (Read narrow_block) (either ts b at) (either thin b at)
       go true e =
@@ -328,7 +328,7 @@ module _ (ts : List Token) where
   reading_another close m m' h l at c = rw (clear_at at c) (go (eqb (full_at at).is (the close)))
     where
       either : Stmts → Reads Stmt → Bool → Reads (Option Stmts)
-      either l m b = if b then (λ _. give none) else λ _. do s ← m; give (some (l ⨾ s))
+      either l m b = when b then (λ _. give none) else λ _. do s ← m; give (some (l ⨾ s))
 
       go : (b : Bool) → Beside (Read (map-option narrow_stmts)) (either l m b at) (either (narrow_stmts l) m' b at)
       go true = both_well (record { value = refl; place = refl; clear = c })

@@ -20,7 +20,7 @@ module _ {Γ : Declarations} {C : ℕ} (m : Mask) (size : length m ≡ C) (ρ : 
   length_is : {e : Code} → Matched Γ C e → length (value e m ρ) ≡ width Γ C e
   length_is h = value-length m size ρ sized h
 
-  -- ρ′ gives lane i of each.
+  -- ρ' gives lane i of each.
   module _ (i : ℕ) (here : Reaches i C) (all : (x : ℕ) → x < length Γ → Reaches i (lanes_of Γ x))
       (ρ' : ℕ → Value) (reads : (x : ℕ) → x < length Γ → ρ' x ≡ lane 0 (ρ x) i ∷ []) where
     reaches-value : {e : Code} → Matched Γ C e → Reaches i (length (value e m ρ))

@@ -41,7 +41,7 @@ pub record LaneByItself (i : ℕ) (text : List ℕ) (budget : ℕ) (M : Memory) 
 pub record LanesByThemselves (n : ℕ) (text : List ℕ) : Type 0 where
   pub accepted : (judge (narrow text)).code ≡ 0
   pub one_lane : (budget : ℕ) (M : Memory) → RunEnds text budget M → (i : ℕ) → i < n → LaneByItself i text budget M
-  pub no_other-lane : (budget budget' : ℕ) (M M' : Memory) → RunEnds text budget M → RunEnds text budget' M' → (i : ℕ) → i < n
+  pub no_other_lane : (budget budget' : ℕ) (M M' : Memory) → RunEnds text budget M → RunEnds text budget' M' → (i : ℕ) → i < n
       → SameLane i text M M' → SameLane i text (run text M budget).1 (run text M' budget').1
 
 -- Demand 3.

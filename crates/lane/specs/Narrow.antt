@@ -1,7 +1,7 @@
 -- Narrowing, on texts: "in each `block[N]` with N above 1 the digits of N become `1` (a second digit becomes a space), so that
 -- every place and the text's length stay". A block whose length comes from its initial value narrows by itself.
 use Rattle.std.specs.Prelude.{ℕ, zero, suc, ◌-◌, Bool, ◌&&◌, List, ◌∷◌, ◌++◌, eqb, leb, length, take, drop, replicate}
-use Rattle.meaning.specs.Codes.{if◌then◌else◌}
+use Rattle.meaning.specs.Codes.{when◌then◌else◌}
 use Rattle.meaning.specs.Tokens.{the, Piece, over, bad, gap, token, piece}
 
 -- Is the token i, after the tokens j and k, the N of a `block[N]`?
@@ -17,7 +17,7 @@ unfoldable pub narrow_piece : (ℕ → ℕ → List ℕ → List ℕ) → ℕ �
 narrow_piece rest j k over s = s
 narrow_piece rest j k bad s = s
 narrow_piece rest j k (gap n) s = take n s ++ rest j k (drop n s)
-narrow_piece rest j k (token i v x n) s = (if is_block j k i && leb 2 v then (λ _. one_padded n) else λ _. take n s) ++ rest k i (drop n s)
+narrow_piece rest j k (token i v x n) s = (when is_block j k i && leb 2 v then (λ _. one_padded n) else λ _. take n s) ++ rest k i (drop n s)
 
 -- The first f pieces of some bytes.
 unfoldable pub narrow_from : ℕ → ℕ → ℕ → List ℕ → List ℕ

@@ -1,7 +1,7 @@
 -- What a narrowed text is: narrowed tokens, a narrowed tree, and the same program over declarations of one lane each.
 use Rattle.std.specs.Prelude.{ℕ, ◌≡◌, List, [], ◌∷◌, leb, length}
 use Rattle.std.proofs.Math.Option.{none, some}
-use Rattle.meaning.specs.Codes.{ok, if◌then◌else◌}
+use Rattle.meaning.specs.Codes.{ok, when◌then◌else◌}
 use Rattle.meaning.specs.Tokens.{Token, the, lexed}
 use Rattle.meaning.specs.Tree.{Block, Stmt, empty, braces, declare, assign, if_else, while, scalar, Stmts, none_yet, ◌⨾◌}
 use Rattle.meaning.specs.Reading.{read}
@@ -12,11 +12,11 @@ use Rattle.lane.specs.Narrow.{is_block, narrow}
 
 -- A length above 1 becomes 1.
 unfoldable pub narrow_length : ℕ → ℕ
-narrow_length n = if leb 2 n then (λ _. 1) else λ _. n
+narrow_length n = when leb 2 n then (λ _. 1) else λ _. n
 
 -- A token after the tokens j and k, and some tokens after them.
 unfoldable pub narrow_token : ℕ → ℕ → Token → Token
-narrow_token j k t = if is_block j k t.is then (λ _. record { is = t.is; place = t.place; value = narrow_length t.value; spelled = t.spelled }) else λ _. t
+narrow_token j k t = when is_block j k t.is then (λ _. record { is = t.is; place = t.place; value = narrow_length t.value; spelled = t.spelled }) else λ _. t
 
 unfoldable pub narrow_tokens : ℕ → ℕ → List Token → List Token
 narrow_tokens j k [] = []

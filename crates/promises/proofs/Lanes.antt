@@ -46,8 +46,8 @@ module _ (n : ℕ) (text : List ℕ) (said : LanesByThemselves n text) where
   lanes_served = record {
     accepted = λ slice written kept. rw (judge_reads (narrow text) slice kept refl) said.accepted;
     one_lane = lane_served;
-    no_other-lane = λ {budget} {budget'} {M} {M'} call call' e e' i h alike.
-        rw (leaves call, leaves call') (said.no_other-lane budget budget' M M' (ends call e) (ends call' e') i h alike);
+    no_other_lane = λ {budget} {budget'} {M} {M'} call call' e e' i h alike.
+        rw (leaves call, leaves call') (said.no_other_lane budget budget' M M' (ends call e) (ends call' e') i h alike);
   }
 
 pub demand_three_served : DemandThreeServed

@@ -89,7 +89,7 @@ span_in table x = let e = entry_in table x in record { address = e.address; byte
 abbrev pub shown : ℕ → List ℕ → ℕ
 shown count table = min count (length table / record_bytes)
 
--- What a caller reads who lent a table and is left table′, with the answer a, whose fourth number counts the declarations.
+-- What a caller reads who lent a table and is left table', with the answer a, whose fourth number counts the declarations.
 pub record ListsAddresses (text table : List ℕ) (a : Answer) (table' : List ℕ) : Type 0 where
   -- It is told of every declaration of the text,
   pub count : a.steps ≡ length (variables text)

@@ -41,7 +41,7 @@ pub record LaneServed (i : ℕ) {text : List ℕ} {M : Memory} {budget : ℕ} (f
 pub record LanesServed (n : ℕ) (text : List ℕ) : Type 0 where
   pub accepted : (slice written : List ℕ) → Kept (judge_call (narrow text) slice) 1 written tt → (numbers_in written).code ≡ 0
   pub one_lane : {budget : ℕ} {M : Memory} (full : Answered text M budget) → ToldEnd full → (i : ℕ) → i < n → LaneServed i full
-  pub no_other-lane : {budget budget' : ℕ} {M M' : Memory} (call : Answered text M budget) (call' : Answered text M' budget') → ToldEnd call → ToldEnd call'
+  pub no_other_lane : {budget budget' : ℕ} {M M' : Memory} (call : Answered text M budget) (call' : Answered text M' budget') → ToldEnd call → ToldEnd call'
       → (i : ℕ) → i < n → SameLane i text M M' → SameLane i text call.memory call'.memory
 
 -- Demand 3, of the services.

@@ -10,7 +10,7 @@ use lib.ListN.{length}
 use borrow.Author.Tests.{leb-true, le-leb}
 use Rattle.meaning.specs.declared.Refusal.{Refusal}
 use Rattle.meaning.specs.declared.Refusal.TheVariants.{TextTooLong}
-use Rattle.meaning.specs.Codes.{code, Out, ok, refused, if◌then◌else◌, text_limit, nesting_limit}
+use Rattle.meaning.specs.Codes.{code, Out, ok, refused, when◌then◌else◌, text_limit, nesting_limit}
 use Rattle.meaning.specs.Tokens as T
 use Rattle.meaning.specs.Tokens.{Token, lexed}
 use Rattle.meaning.specs.Tree.{Stmts}
@@ -28,7 +28,7 @@ use Rattle.rules.proofs.Typable.{Becomes, becomes}
 
 -- The three passes, and the limits of the first two.
 lexed_is : (text : List ℕ) →
-    lexed text ≡ (if leb (length text) text_limit then (λ _. T.tokens text) else λ _. refused TextTooLong 0)
+    lexed text ≡ (when leb (length text) text_limit then (λ _. T.tokens text) else λ _. refused TextTooLong 0)
 unfolding lexed
 lexed_is text = refl
 
@@ -77,7 +77,7 @@ module _ (text : List ℕ) (tree : Stmts) (P : Program) (Γ : Declarations) (p :
   short_tokens = go (leb (length text) text_limit) refl (sym (lexed_is text) ∙ p.lexes)
     where
       go : (t : Bool) → leb (length text) text_limit ≡ t →
-          (if t then (λ _. T.tokens text) else λ _. refused TextTooLong 0) ≡ ok p.tokens p.end →
+          (when t then (λ _. T.tokens text) else λ _. refused TextTooLong 0) ≡ ok p.tokens p.end →
           (length text ≤ text_limit) × (T.tokens text ≡ ok p.tokens p.end)
       go true h e = (leb-true (length text) text_limit h, e)
       go false h e = let never : ◌≡◌ {A = ℕ} 0 1 = cc in absurd (omega arith)

@@ -71,7 +71,7 @@ module _ (Δ : Declarations) where
   value_over a (e_unary t d) = e_unary t (value_over a d)
   value_over a (e_binary t d d' f) = e_binary t (value_over a d) (value_over a d') f
 
-  store_over : {σ : Scope} {m : Mask} {M M' : Memory} {i : ℕ} {k : Kind} {v : Value} → Alike σ.table Δ →
+  store_over : {σ : Scope} {m : Mask} {M : Memory} {i : ℕ} {k : Kind} {v : Value} {M' : Memory} → Alike σ.table Δ →
       σ ∣ m ∣ M ⊢ i ≔⟨ k ∣ v ⟩ M' → over σ ∣ m ∣ M ⊢ i ≔⟨ k ∣ v ⟩ M'
   unfolding over
   store_over {m} {M} a (e_assign {i = i} {v = v} h l t) =

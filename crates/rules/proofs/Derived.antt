@@ -12,7 +12,7 @@ use Rattle.meaning.specs.Memory.{Memory, Value, Mask, Declarations, declared, fe
 use Rattle.meaning.specs.Running.{Ran, Run, stopped, done, value, costs, and_then, some_lane, unless_empty, branches, while_left, loop, evaluating, testing, run}
 use Rattle.meaning.specs.Services.{evaluate, effect, program_run}
 use Rattle.rules.specs.Evaluation.{◌∩◌, ◌∖◌, End, ended, due}
-use Rattle.rules.proofs.Resolved.{◌∣◌∣◌▹◌⇒◌, r_const, r_var, r_mask, r_unary, r_binary, Costly, step-costs, put_costs, choice_costs, ◌∣◌∣◌▹◌⇓◌after◌, r_inactive, r_active, r_nothing, r_decl, r_assign, r_broadcast, r_sequence, r_if, r_while, r_scalar, r_due, r_sequence_due, r_if_due, r_leave, r_again, r_test_due, r_body_due}
+use Rattle.rules.proofs.Resolved.{◌∣◌∣◌▹◌⇒◌, r_const, r_var, r_mask, r_unary, r_binary, Costly, step_costs, put_costs, choice_costs, ◌∣◌∣◌▹◌⇓◌after◌, r_inactive, r_active, r_nothing, r_decl, r_assign, r_broadcast, r_sequence, r_if, r_while, r_scalar, r_due, r_sequence_due, r_if_due, r_leave, r_again, r_test_due, r_body_due}
 use Rattle.rules.proofs.Masks.{runs, skips, while_as_rule, branches_as_rule}
 
 -- What a run answers that stands as r says, with b steps of its budget left.
@@ -157,7 +157,7 @@ module _ (Γ : Declarations) where
 
     dues : {p : ℕ} {s : Program} → Costly s p → RunsActive m M s (due p M) 0
     unfolding run answers Left
-    dues step-costs = record { is = λ h b l. rw (zero-add, l) }
+    dues step_costs = record { is = λ h b l. rw (zero-add, l) }
     dues put_costs = record { is = λ h b l. rw (zero-add, l) }
     dues choice_costs = record { is = λ h b l. rw (zero-add, l) }
 

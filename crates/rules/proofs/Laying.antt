@@ -86,7 +86,7 @@ but_open v a o e s =
 pub lays_alike : {end N : ℕ} {l : List Variable} {Γ Δ : Declarations} → Alike Γ Δ → Lays end l Γ N → Lays end l Δ N
 lays_alike none_yet lay_none = lay_none
 lays_alike (both_more {e = e} s a) (lay_next {a = from} {v = v} {o = o} x b) =
-    rw (but_open v from o e s) (lay_next x (lays_alike a b))
+    rw (but_open v from o e s) (lay_next x (lays_alike {end = from + bytes v} a b))
 
 -- One variable more, behind the others.
 lays_one : {end N a : ℕ} {l : List Variable} {Γ : Declarations} (v : Variable) (o : Bool) → Lays end l Γ N → Next N (bytes v) a →

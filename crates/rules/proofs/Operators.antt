@@ -5,13 +5,13 @@ use mathlib.Core.List.{[], ◌∷◌}
 use Rattle.meaning.specs.declared.Kind.{Kind}
 use Rattle.meaning.specs.declared.Kind.TheVariants.{Int as int, Bool as bool, Float as float}
 use Rattle.meaning.specs.declared.Unary.{Unary}
-use Rattle.meaning.specs.declared.Unary.TheVariants.{Neg as neg, Inv as inv, Not as not}
+use Rattle.meaning.specs.declared.Unary.TheVariants.{Neg as neg, Inv as inv, Not as unary_not}
 use Rattle.meaning.specs.declared.Binary.{Binary}
 use Rattle.meaning.specs.declared.Binary.TheVariants.{Or as or, Xor as xor, And as and, Eq as eq, Ne as ne, Lt as lt, Gt as gt, Le as le, Ge as ge, Add as add, Sub as sub, Mul as mul}
 use Rattle.meaning.specs.Tree.{kind_number, same_kind, ◌one_of◌, table, unary_table}
 use Rattle.meaning.specs.Typing.{accepts, gives_kind}
 use Rattle.laws.proofs.Typing.{same_kind_is}
-use Rattle.rules.specs.Operators.{Number, int_counts, float_counts, Bits, word_has_bits, bit_has_bits, ◌takes◌, takes_neg, takes_inv, takes_not, ◌takes-two◌gives◌, takes_add, takes_sub, takes_mul, takes_lt, takes_gt, takes_le, takes_ge, takes_eq, takes_ne, takes_and, takes_or, takes_xor}
+use Rattle.rules.specs.Operators.{Number, int_counts, float_counts, Bits, word_has_bits, bit_has_bits, ◌takes◌, takes_neg, takes_inv, takes_not, ◌takes_two◌gives◌, takes_add, takes_sub, takes_mul, takes_lt, takes_gt, takes_le, takes_ge, takes_eq, takes_ne, takes_and, takes_or, takes_xor}
 
 pub same_as_itself : (k : Kind) → same_kind k k ≡ true
 unfolding same_kind kind_number
@@ -55,9 +55,9 @@ by_unary_table neg k e = takes_neg (by_numbers k e)
 by_unary_table inv int e = takes_inv
 by_unary_table inv bool e = absurd (false≢true e)
 by_unary_table inv float e = absurd (false≢true e)
-by_unary_table not int e = absurd (false≢true e)
-by_unary_table not bool e = takes_not
-by_unary_table not float e = absurd (false≢true e)
+by_unary_table unary_not int e = absurd (false≢true e)
+by_unary_table unary_not bool e = takes_not
+by_unary_table unary_not float e = absurd (false≢true e)
 
 pub in_unary_table : {o : Unary} {k : Kind} → o takes k → k one_of (unary_table o).1 ≡ true
 unfolding unary_table ◌one_of◌ same_kind kind_number

@@ -14,7 +14,7 @@ use Rattle.meaning.specs.Typing.{gives_kind}
 use Rattle.rules.specs.Scopes.{Scope, ◌means◌, opened, beyond, past, past_all, declarations}
 use Rattle.rules.specs.Evaluation.{◌∣◌∣◌⊢◌⇒⟨◌∣◌⟩, ◌∣◌∣◌⊢◌≔⟨◌∣◌⟩◌, e_assign, e_broadcast, e_number, e_float, e_boolean, e_var, e_mask, e_unary, e_binary, End, ended, Costs, empty_costs, declare_costs, assign_costs, if_costs, ◌∣◌∣◌⊢*◌↓◌after◌, e_skip, e_scope, e_decl, e_init, e_store, e_if, e_while, e_scalar, e_due, e_if_due, e_none, e_sequence, e_sequence_due, e_inactive, e_active, e_leave, e_again, e_test_due, e_body_due}
 use Rattle.rules.proofs.Operators.{in_table}
-use Rattle.rules.proofs.Resolved.{◌∣◌∣◌▹◌⇒◌, r_const, r_var, r_mask, r_unary, r_binary, Costly, step-costs, put_costs, choice_costs, ◌∣◌∣◌▹◌⇓◌after◌, r_inactive, r_active, ◌∣◌∣◌▹◌↓◌after◌, r_nothing, r_decl, r_assign, r_broadcast, r_sequence, r_if, r_while, r_scalar, r_due, r_sequence_due, r_if_due, Loop, r_leave, r_again, r_test_due, r_body_due}
+use Rattle.rules.proofs.Resolved.{◌∣◌∣◌▹◌⇒◌, r_const, r_var, r_mask, r_unary, r_binary, Costly, step_costs, put_costs, choice_costs, ◌∣◌∣◌▹◌⇓◌after◌, r_inactive, r_active, ◌∣◌∣◌▹◌↓◌after◌, r_nothing, r_decl, r_assign, r_broadcast, r_sequence, r_if, r_while, r_scalar, r_due, r_sequence_due, r_if_due, Loop, r_leave, r_again, r_test_due, r_body_due}
 
 -- The number of a name, 0 where it is not open; the kind and the code of an expression.
 unfoldable pub number_of : Scope → Name → ℕ
@@ -86,15 +86,15 @@ to_code (e_unary u d) = let t = to_code d in (t.0, rw (← t.0) (r_unary t.1))
 to_code (e_binary u d d' f) = let t = to_code d in (sym (in_table u).1 ∙ ap (gives_kind _) t.0, rw (← t.0) (r_binary t.1 (to_code d').1 f))
 
 -- A store into the variable i.
-to_put : {σ : Scope} {m : Mask} {M M' : Memory} {p i : ℕ} {c : Code} {k : Kind} {v : Value} → σ.table ∣ m ∣ M ▹ c ⇒ v →
+to_put : {σ : Scope} {m : Mask} {M : Memory} {p i : ℕ} {c : Code} {k : Kind} {v : Value} {M' : Memory} → σ.table ∣ m ∣ M ▹ c ⇒ v →
     σ ∣ m ∣ M ⊢ i ≔⟨ k ∣ v ⟩ M' → σ.table ∣ m ∣ M ▹ put p i c ↓ ended M' after 1
 to_put d (e_assign e l t) = r_assign d l t
 to_put d (e_broadcast e t) = r_broadcast d t
 
 costs : {s : Stmt} {p : ℕ} (σ : Scope) → Costs s p → Costly (program s σ) p
 unfolding program
-costs σ empty_costs = step-costs
-costs σ (declare_costs {v = none}) = step-costs
+costs σ empty_costs = step_costs
+costs σ (declare_costs {v = none}) = step_costs
 costs σ (declare_costs {v = some v}) = put_costs
 costs σ assign_costs = put_costs
 costs σ if_costs = choice_costs

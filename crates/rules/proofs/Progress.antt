@@ -14,7 +14,7 @@ use Rattle.meaning.specs.Services.{evaluate, effect, program_run}
 use Rattle.meaning.specs.Typing.{joined}
 use Rattle.rules.specs.Lengths.{Match, Target, Fills, whole, broadcast}
 use Rattle.rules.specs.Evaluation.{◌∩◌, ◌∖◌, End, ended, due}
-use Rattle.rules.proofs.Resolved.{◌∣◌∣◌▹◌⇒◌, step-costs, put_costs, choice_costs, ◌∣◌∣◌▹◌⇓◌after◌, r_inactive, r_active, ◌∣◌∣◌▹◌↓◌after◌, r_nothing, r_decl, r_assign, r_broadcast, r_sequence, r_if, r_while, r_scalar, r_due, r_sequence_due, r_if_due, Loop, r_leave, r_again, r_test_due, r_body_due}
+use Rattle.rules.proofs.Resolved.{◌∣◌∣◌▹◌⇒◌, step_costs, put_costs, choice_costs, ◌∣◌∣◌▹◌⇓◌after◌, r_inactive, r_active, ◌∣◌∣◌▹◌↓◌after◌, r_nothing, r_decl, r_assign, r_broadcast, r_sequence, r_if, r_while, r_scalar, r_due, r_sequence_due, r_if_due, Loop, r_leave, r_again, r_test_due, r_body_due}
 use Rattle.rules.proofs.Masks.{runs, skips, branches_as_rule}
 use Rattle.rules.proofs.Lengths.{length_first, length_second, joined_again, joined-match}
 use Rattle.rules.proofs.Derived.{has_value, turns, run_both, run_cycle, run_alone, tested, broadcast as broadcasts}
@@ -63,7 +63,7 @@ module _ (Γ : Declarations) where
     pub by_rules : (m : Mask) (M : Memory) (b : ℕ) → length m ≡ C → some_lane m ≡ true →
         ByRules (λ r n. Γ ∣ m ∣ M ▹ s ↓ r after n) b (program_run Γ s m b M)
 
-  -- A value of n lanes is stored by R-ASSIGN or R-BROADCAST.
+  -- A value of n lanes is stored by r_assign or r_broadcast.
   stored : {m : Mask} {M : Memory} {p x n : ℕ} {e : Code} (v : Value) → Γ ∣ m ∣ M ▹ e ⇒ v → length v ≡ n →
       Fills n (declared Γ x).lanes → Target (length m) (declared Γ x).lanes →
       Γ ∣ m ∣ M ▹ put p x e ↓ ended (update Γ M x m v) after 1
@@ -81,7 +81,7 @@ module _ (Γ : Declarations) where
       at true a = rw (runs (program_run Γ s) m b M a) (to_rules (λ _ _ d. r_active a d) (g.by_rules m M b l a))
       at false a = rw (skips (program_run Γ s) m b M a) (ends 0 b (r_inactive a) (omega arith))
 
-  -- A loop whose condition has n lanes and whose body runs under C′.
+  -- A loop whose condition has n lanes and whose body runs under C'.
   module _ (p n C' : ℕ) (e : Code) (s : Program) (m₀ : Mask) (v : (M : Memory) → HasValue m₀ M e n) (g : Goes C' s) where
     Looping : ℕ → ℕ → Mask → Memory → Type 0
     Looping k b m M = ByRules (Loop Γ p e s m₀ m M) b (turns Γ k p e s m₀ m b M)
@@ -142,7 +142,7 @@ module _ (Γ : Declarations) where
     step_goes p = record { by_rules = λ m M b l a. at b }
       where
         at : {m : Mask} {M : Memory} (b : ℕ) → ByRules (λ r n. Γ ∣ m ∣ M ▹ step p ↓ r after n) b (program_run Γ (step p) m b M)
-        at zero = spends (r_due step-costs)
+        at zero = spends (r_due step_costs)
         at (suc b) = ends 1 b r_decl (omega arith)
 
     pub put_goes : {p x n : ℕ} {e : Code} → Valued C e n → Fills n (declared Γ x).lanes → Target C (declared Γ x).lanes →

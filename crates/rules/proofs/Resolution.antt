@@ -12,13 +12,12 @@ use Rattle.meaning.specs.Program.{Code, constant, variable, the_mask, one, two, 
 use Rattle.meaning.specs.Memory.{Memory, Value, Mask, Declarations, declared, bit}
 use Rattle.meaning.specs.Running.{some_lane}
 use Rattle.meaning.specs.Typing.{gives_kind}
-use Rattle.rules.specs.Operators.{◌takes◌, ◌takes-two◌gives◌}
+use Rattle.rules.specs.Operators.{◌takes◌, ◌takes_two◌gives◌}
 use Rattle.rules.specs.Scopes.{Scope, ◌means◌, beyond, past_all, declarations}
-use Rattle.rules.specs.Evaluation
 use Rattle.rules.specs.Evaluation.{◌∣◌∣◌⊢◌⇒⟨◌∣◌⟩, e_number, e_float, e_boolean, e_var, e_mask, e_unary, e_binary, e_assign, e_broadcast, End, empty_costs, declare_costs, assign_costs, if_costs, ◌∣◌∣◌⊢◌⇓◌after◌, ◌∣◌∣◌⊢◌↓◌after◌, ◌∣◌∣◌⊢*◌↓◌after◌, e_skip, e_scope, e_decl, e_init, e_store, e_if, e_while, e_scalar, e_due, e_if_due, e_none, e_sequence, e_sequence_due, e_inactive, e_active, While, e_leave, e_again, e_test_due, e_body_due}
 use Rattle.rules.proofs.Operators.{in_table}
 use Rattle.rules.proofs.Programs.{the_number, kind, code, program, programs, past_all-table}
-use Rattle.rules.proofs.Resolved.{◌∣◌∣◌▹◌⇒◌, r_const, r_var, r_mask, r_unary, r_binary, step-costs, put_costs, choice_costs, ◌∣◌∣◌▹◌⇓◌after◌, r_inactive, r_active, ◌∣◌∣◌▹◌↓◌after◌, r_nothing, r_decl, r_assign, r_broadcast, r_sequence, r_if, r_while, r_scalar, r_due, r_sequence_due, r_if_due, Loop, r_leave, r_again, r_test_due, r_body_due}
+use Rattle.rules.proofs.Resolved.{◌∣◌∣◌▹◌⇒◌, r_const, r_var, r_mask, r_unary, r_binary, step_costs, put_costs, choice_costs, ◌∣◌∣◌▹◌⇓◌after◌, r_inactive, r_active, ◌∣◌∣◌▹◌↓◌after◌, r_nothing, r_decl, r_assign, r_broadcast, r_sequence, r_if, r_while, r_scalar, r_due, r_sequence_due, r_if_due, Loop, r_leave, r_again, r_test_due, r_body_due}
 
 -- An expression e, its code c and its kind k.
 abbrev FromValue : Scope → Expr → Code → Kind → Type 0
@@ -125,7 +124,7 @@ module _ {σ : Scope} where
     where
       from : From σ (empty p) (step p)
       from m M r n a r_decl = e_skip
-      from m M r n a (r_due step-costs) = e_due empty_costs
+      from m M r n a (r_due step_costs) = e_due empty_costs
 
   pub same_declaration : {p q : ℕ} {k : Kind} {b : Block} {x : Name} → Same σ (declare p k b q x none) (step p)
   unfolding program
@@ -133,7 +132,7 @@ module _ {σ : Scope} where
     where
       from : From σ (declare p k b q x none) (step p)
       from m M r n a r_decl = e_decl
-      from m M r n a (r_due step-costs) = e_due declare_costs
+      from m M r n a (r_due step_costs) = e_due declare_costs
 
   pub same_init : {p q : ℕ} {k k' : Kind} {b : Block} {x : Name} {e : ℕ × Expr} {c : Code} → SameValue σ e.1 c k' →
       (declared σ.table σ.count).kind ≡ k' → Same σ (declare p k b q x (some e)) (put p σ.count c)
@@ -184,6 +183,7 @@ module _ {σ : Scope} where
     where
       from : From σ (while p e s) (cycle p c P)
       from m M r n a (r_while w) = e_while (loop v g w)
+      from m M r n a (r_due d) = elim d [ ]
 
   pub same_scalar : {p : ℕ} {s : Stmt} {P : Program} → Same σ s P → Same σ (scalar p s) (alone P)
   unfolding program some_lane
@@ -191,6 +191,7 @@ module _ {σ : Scope} where
     where
       from : From σ (scalar p s) (alone P)
       from m M r n a (r_scalar d) = e_scalar (g.from _ _ _ _ refl (active refl d))
+      from m M r n a (r_due d) = elim d [ ]
 
   pub same_none : SameAll σ none_yet nothing
   unfolding program
@@ -198,6 +199,7 @@ module _ {σ : Scope} where
     where
       from : FromAll σ none_yet nothing
       from m M r n a r_nothing = e_none
+      from m M r n a (r_due d) = elim d [ ]
 
   pub same_sequence : {l : Stmts} {s : Stmt} {P P' : Program} → SameAll σ l P → Same (past_all l σ) s P' →
       SameAll σ (l ⨾ s) (both P P')
@@ -208,3 +210,4 @@ module _ {σ : Scope} where
       from m M r n a (r_sequence d d') =
           e_sequence (g.from _ _ _ _ a (active a d)) (h.from _ _ _ _ a (rw (← past_all-table l σ) at (active a d')))
       from m M r n a (r_sequence_due d) = e_sequence_due (g.from _ _ _ _ a (active a d))
+      from m M r n a (r_due d) = elim d [ ]

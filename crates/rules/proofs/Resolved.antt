@@ -36,7 +36,7 @@ pub data ◌∣◌∣◌▹◌⇒◌ (Γ : Declarations) (m : Mask) (M : Memory)
 
 -- "One step each": what begins with a step, and its place. (A `while` does too: `r_test_due`.)
 pub data Costly : Program → ℕ → Type 0 where
-  step-costs : {p : ℕ} → Costly (step p) p
+  step_costs : {p : ℕ} → Costly (step p) p
   put_costs : {p x : ℕ} {e : Code} → Costly (put p x e) p
   choice_costs : {p : ℕ} {e : Code} {s t : Program} → Costly (choice p e s t) p
 

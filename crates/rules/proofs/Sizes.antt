@@ -7,7 +7,7 @@ use mathlib.Core.Option.{some}
 use native.Mathlib.Omega.{arith}
 use lib.Dec.{eqb}
 use Rattle.meaning.specs.declared.Kind.{Kind}
-use Rattle.meaning.specs.Codes.{if◌then◌else◌}
+use Rattle.meaning.specs.Codes.{when◌then◌else◌}
 use Rattle.meaning.specs.Tokens.{equal}
 use Rattle.meaning.specs.Tree.{Name, Expr, Block}
 use Rattle.meaning.specs.Typing.{joined, lanes_or}
@@ -41,7 +41,7 @@ pub some_joined : (n m : ℕ) → 0 < n → 0 < m → 0 < joined n m
 unfolding joined
 some_joined n m h g = go (eqb n 1)
   where
-    go : (t : Bool) → 0 < (if t then (λ _. m) else λ _. n)
+    go : (t : Bool) → 0 < (when t then (λ _. m) else λ _. n)
     go true = g
     go false = h
 

@@ -10,14 +10,14 @@ use borrow.Author.Tests.{lt-ltb}
 use Rattle.meaning.specs.declared.Kind.{Kind}
 use Rattle.meaning.specs.declared.Kind.TheVariants.{Bool as bool}
 use Rattle.meaning.specs.declared.Refusal.TheVariants.{UnknownName, WrongKind, WrongLength}
-use Rattle.meaning.specs.Codes.{Out, ok, refused, check, refuse, give, option, ◌>>=◌, ◌>>◌, lengths, declaration_limit}
+use Rattle.meaning.specs.Codes.{Out, ok, refused, check, refuse, give, option, ◌>>◌, declaration_limit}
 use Rattle.meaning.specs.declared.Binary.{Binary}
-use Rattle.meaning.specs.Tree.{Name, same_kind, ◌one_of◌, table, unary_table, Expr, number, Block, Stmt, empty, braces, declare, assign, if_else, while, scalar, Stmts, none_yet, ◌⨾◌}
+use Rattle.meaning.specs.Tree.{Name, same_kind, ◌one_of◌, table, unary_table, Expr, Block, Stmt, empty, braces, declare, assign, if_else, while, scalar, Stmts, none_yet, ◌⨾◌}
 use Rattle.meaning.specs.Program.{Program, two}
 use Rattle.meaning.specs.Memory.{Declared, Declarations, declared, need}
 use Rattle.meaning.specs.Typing.{Typed, accepts, gives_kind, match, fits, find, variable_named, typed, typed_condition, storable, declare_name, good_block, lanes_or, typed_declaration, with_one, scope, typed_statement, typed_statements, joined}
 use Rattle.rules.specs.Lengths.{Match, Target, Fills, whole, broadcast}
-use Rattle.rules.specs.Operators.{◌takes-two◌gives◌}
+use Rattle.rules.specs.Operators.{◌takes_two◌gives◌}
 use Rattle.rules.specs.Scopes.{declarations, declarations_in}
 use Rattle.rules.specs.Typing.{Names, ◌at◌, Listed, no_block, block, ◌∣◌⊢◌∶⟨◌∣◌⟩, t_number, t_float, t_boolean, t_var, t_mask, t_unary, t_binary, ◌∣◌⊢◌⊣◌, t_skip, t_scope, t_decl, t_init, t_assign, t_broadcast, t_if, t_while, t_scalar, ◌∣◌⊢*◌⊣◌, t_none, t_sequence}
 use Rattle.rules.specs.Laying.{Variable, variables_of, Lays}
@@ -129,7 +129,7 @@ record From (N : Names) (C : ℕ) (Γ : Declarations) : Type 0 where
   sized : Sized N
   some_lanes : 0 < C
 
--- What it leaves: the names N′, and the variables v behind those before.
+-- What it leaves: the names N', and the variables v behind those before.
 record Leaves (N' : Names) (v : List Variable) (Γ Γ' : Declarations) : Type 0 where
   opened : opens Γ' ≡ N'
   sized : Sized N'

@@ -12,7 +12,7 @@ use lib.Seq.{take-append_seam, drop-append_seam}
 use Rattle.meaning.specs.declared.Kind.{Kind}
 use Rattle.meaning.specs.declared.Kind.TheVariants.{Bool as bool}
 use Rattle.meaning.specs.declared.Refusal.TheVariants.{UnknownName, AlreadyOpen, LengthNotListed, WrongKind, WrongLength, LengthOneTarget, TooManyDeclarations}
-use Rattle.meaning.specs.Codes.{after, check, option, refuse, give, ◌>>=◌, ◌>>◌, ◌among◌, lengths, declaration_limit}
+use Rattle.meaning.specs.Codes.{check, option, refuse, give, ◌>>◌, ◌among◌, lengths, declaration_limit}
 use Rattle.meaning.specs.Tree.{Name, same_kind, ◌one_of◌, table, unary_table, Expr, number, float_number, boolean, name, current_mask, unary, binary, Block, Stmt, empty, braces, declare, assign, if_else, while, scalar, Stmts, none_yet, ◌⨾◌}
 use Rattle.meaning.specs.Program.{Program}
 use Rattle.meaning.specs.Memory.{Declared, Declarations, declared}
@@ -214,7 +214,7 @@ pub branch : {s : Stmt} {C : ℕ} {Γ : Declarations} → Yields (Stated s C Γ)
 unfolding scope
 branch {s} {C} {Γ} y = followed _ y (λ P Γ' h. well (in_scope (λ N. opens Γ ∣ C ⊢ s ⊣ N) h.declares h.types))
 
--- A declaration, by T-DECL or T-INIT.
+-- A declaration, by t_decl or t_init.
 declared_by_rules : (C p : ℕ) (k : Kind) (b : Block) (q : ℕ) (x : Name) (v : Option (ℕ × Expr)) (Γ : Declarations) →
     Yields (Stated (declare p k b q x v) C Γ) (typed_declaration C p k b q x v Γ)
 unfolding typed_declaration declarations
@@ -237,7 +237,7 @@ declared_by_rules C p k b q x (some v) Γ =
       types = rw opens_with_one (t_init good (rw s.kind at d) s.fill (s.wide h.fitting) h.fresh);
     }))))))
 
--- An assignment, by T-ASSIGN or T-BROADCAST.
+-- An assignment, by t_assign or t_broadcast.
 assigned : {Γ : Names} {C p q n l : ℕ} {k : Kind} {x : Name} {e : Expr} → Γ at x ≡ some (k, n) → Γ ∣ C ⊢ e ∶⟨ k ∣ l ⟩ →
     Fills l n → Target C n → Γ ∣ C ⊢ assign p x q e ⊣ Γ
 assigned h d (whole e) t = t_assign h (rw e at d) t

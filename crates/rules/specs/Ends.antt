@@ -6,7 +6,7 @@ use Rattle.rules.specs.Evaluation.{ended, ◌∣◌∣◌⊢*◌↓◌after◌}
 use Rattle.rules.specs.Accepted.{Accepted, Placed}
 
 -- The text is accepted; its variables lie in a table and need N bytes, which the memory M has; and "the mask starts as one true lane":
--- so its tree ends after n steps and leaves M′.
+-- so its tree ends after n steps and leaves M'.
 pub record Ends (text : List ℕ) (M : Memory) (N n : ℕ) (M' : Memory) : Type 0 where
   pub accepted : Accepted text
   pub table : Declarations

@@ -10,7 +10,7 @@ use Rattle.meaning.specs.Tree.{Name, Expr, number, float_number, boolean, name, 
 use Rattle.meaning.specs.Memory.{Memory, Value, Mask, declared, fetch, update, bit, truth}
 use Rattle.meaning.specs.Running.{unary_of, binary_of, lanewise, some_lane}
 use Rattle.rules.specs.Lengths.{Match, Target}
-use Rattle.rules.specs.Operators.{◌takes◌, ◌takes-two◌gives◌}
+use Rattle.rules.specs.Operators.{◌takes◌, ◌takes_two◌gives◌}
 use Rattle.rules.specs.Scopes.{Scope, ◌means◌, beyond, past_all, declarations}
 
 infixl 40 ◌∩◌ ◌∖◌
@@ -51,7 +51,7 @@ pub data ◌∣◌∣◌⊢◌⇒⟨◌∣◌⟩ (σ : Scope) (m : Mask) (M : Me
       σ ∣ m ∣ M ⊢ binary p o e e' ⇒⟨ l ∣ lanewise (binary_of k o) v v' ⟩
 
 infix 10 ◌∣◌∣◌⊢◌≔⟨◌∣◌⟩◌
--- σ ∣ m ∣ M ⊢ i ≔⟨ k ∣ v ⟩ M′: to store v into the variable of number i leaves M′. 001's L(a, τ) = V(v, τ).
+-- σ ∣ m ∣ M ⊢ i ≔⟨ k ∣ v ⟩ M': to store v into the variable of number i leaves M'. 001's L(a, τ) = V(v, τ).
 pub data ◌∣◌∣◌⊢◌≔⟨◌∣◌⟩◌ (σ : Scope) (m : Mask) (M : Memory) : ℕ → Kind → Value → Memory → Type 0 where
   -- "writes exactly the active lanes of its target; in a context of length 1, all lanes"
   e_assign : {i : ℕ} {k : Kind} {v : Value} →

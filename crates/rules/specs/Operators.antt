@@ -2,7 +2,7 @@
 use Rattle.meaning.specs.declared.Kind.{Kind}
 use Rattle.meaning.specs.declared.Kind.TheVariants.{Int as int, Bool as bool, Float as float}
 use Rattle.meaning.specs.declared.Unary.{Unary}
-use Rattle.meaning.specs.declared.Unary.TheVariants.{Neg as neg, Inv as inv, Not as not}
+use Rattle.meaning.specs.declared.Unary.TheVariants.{Neg as neg, Inv as inv, Not as unary_not}
 use Rattle.meaning.specs.declared.Binary.{Binary}
 use Rattle.meaning.specs.declared.Binary.TheVariants.{Or as or, Xor as xor, And as and, Eq as eq, Ne as ne, Lt as lt, Gt as gt, Le as le, Ge as ge, Add as add, Sub as sub, Mul as mul}
 
@@ -16,15 +16,15 @@ pub data Bits : Kind → Type 0 where
   word_has_bits : Bits int
   bit_has_bits : Bits bool
 
-infix 10 ◌takes◌ ◌takes-two◌gives◌
+infix 10 ◌takes◌ ◌takes_two◌gives◌
 -- o takes k: "`-` `~` take int, `!` bool"; of floats "unary minus". It gives its operand's kind.
 pub data ◌takes◌ : Unary → Kind → Type 0 where
   takes_neg : {k : Kind} → Number k → neg takes k
   takes_inv : inv takes int
-  takes_not : not takes bool
+  takes_not : unary_not takes bool
 
--- o takes-two k gives l: "Comparisons give bool, the others their operands' kind."
-pub data ◌takes-two◌gives◌ : Binary → Kind → Kind → Type 0 where
+-- o takes_two k gives l: "Comparisons give bool, the others their operands' kind."
+pub data ◌takes_two◌gives◌ : Binary → Kind → Kind → Type 0 where
   -- "`+ - *` .. take ints", and floats
   takes_add : {k : Kind} → Number k → add takes_two k gives k
   takes_sub : {k : Kind} → Number k → sub takes_two k gives k

@@ -10,7 +10,7 @@ use Rattle.meaning.specs.declared.Binary.{Binary}
 use Rattle.meaning.specs.Tree.{Name, Expr, number, float_number, boolean, name, current_mask, unary, binary, Block, Stmt, empty, braces, declare, assign, if_else, while, scalar, Stmts, none_yet, ◌⨾◌}
 use Rattle.meaning.specs.Typing.{joined, lanes_or}
 use Rattle.rules.specs.Lengths.{Match, Target, Fills}
-use Rattle.rules.specs.Operators.{◌takes◌, ◌takes-two◌gives◌}
+use Rattle.rules.specs.Operators.{◌takes◌, ◌takes_two◌gives◌}
 
 -- "the declarations of the open scopes": the kind and the length of each name, in text order. 001's Γ.
 abbrev pub Names : Type 0
@@ -59,7 +59,7 @@ pub data ◌∣◌⊢◌∶⟨◌∣◌⟩ (Γ : Names) (C : ℕ) : Expr → Kin
       Γ ∣ C ⊢ binary p o e e' ∶⟨ l ∣ joined n n' ⟩
 
 infix 10 ◌∣◌⊢◌⊣◌ ◌∣◌⊢*◌⊣◌
--- Γ ∣ C ⊢ s ⊣ Γ′: in a context of length C, s takes the names Γ to Γ′. With ⊢*, a sequence of statements.
+-- Γ ∣ C ⊢ s ⊣ Γ': in a context of length C, s takes the names Γ to Γ'. With ⊢*, a sequence of statements.
 mutual
   pub data ◌∣◌⊢◌⊣◌ : Names → ℕ → Stmt → Names → Type 0 where
     -- `;`
