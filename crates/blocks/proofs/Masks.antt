@@ -188,11 +188,11 @@ shifted b i h = mod_small (bit b * 2 ^ i) (omega (arith, at_most b i, pow_mono {
     mod_small n l = omega arith
 
 -- A lane that is 0 or 1 is its truth.
-lane-bit : (a : ℕ) → a < 2 → a ≡ bit (not (eqb a 0))
+lane_bit : (a : ℕ) → a < 2 → a ≡ bit (not (eqb a 0))
 unfolding bit
-lane-bit zero h = refl
-lane-bit (suc zero) h = refl
-lane-bit (suc (suc a)) h = absurd (omega arith)
+lane_bit zero h = refl
+lane_bit (suc zero) h = refl
+lane_bit (suc (suc a)) h = absurd (omega arith)
 
 -- After i lanes.
 pub record Counting (x : List ℕ) (r i : ℕ) : Type 0 where
@@ -218,7 +218,7 @@ module _ {x : List ℕ} {r i : ℕ} (c : Counting x r i) where
   -- Lane i in its place.
   placed-bit : i < 16 → get_or x i 0 * 2 ^ i % 2 ^ 32 ≡ bit (not (eqb (get_or x i 0) 0)) * 2 ^ i
   placed-bit h =
-      ap (λ b. b * 2 ^ i % 2 ^ 32) (lane-bit (get_or x i 0) (c.bools.low i (omega (arith, c.lanes)))) ∙ shifted (not (eqb (get_or x i 0) 0)) i h
+      ap (λ b. b * 2 ^ i % 2 ^ 32) (lane_bit (get_or x i 0) (c.bools.low i (omega (arith, c.lanes)))) ∙ shifted (not (eqb (get_or x i 0) 0)) i h
 
   pub count_fits : i < 16 → r + get_or x i 0 * 2 ^ i % 2 ^ 32 < 2 ^ 32
   count_fits h = omega (arith, placed-bit h, small, pow_mono {i = i} {j = 16} c.few, at_most (not (eqb (get_or x i 0) 0)) i)

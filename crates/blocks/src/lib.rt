@@ -1,8 +1,10 @@
 // Chunks of 16 lanes by value: operators between them, a variable's lanes from and to its bytes, and masks.
+#![tactic(auto)]
+
 ghost use Rattle.std.specs.Prelude.{◌≡◌, Bool, ℕ, ◌+◌, ◌*◌, ◌<◌, ◌≤◌, ◌-◌, length, take, drop, replicate};
 ghost use mathlib.Core.List.{[], ◌∷◌, map, zip_with, ◌++◌};
 ghost use Rattle.meaning.specs.declared.Kind.TheVariants.{Int as int, Bool as bool};
-ghost use Rattle.meaning.specs.Memory.{truth, bit as lane-bit, whole, load as loaded, store as stored};
+ghost use Rattle.meaning.specs.Memory.{truth, bit as lane_bit, whole, load as loaded, store as stored};
 ghost use Rattle.meaning.specs.Running.{word_unary, word_binary, float_unary, float_binary, unary_of, binary_of};
 ghost use Rattle.layout.specs.Instructions.{chunk_lanes, mask_bits};
 ghost use Rattle.operators.specs.Operators.{int_size, Sum, Order, Join};
@@ -11,7 +13,7 @@ ghost use Rattle.blocks.specs.Chunks.{placed, padded, in_chunk, four_ints, held_
 
 use floats::chunk;
 use meaning::{Binary, Kind, Unary};
-use operators::{int_counts, bit, int_of, put_int};
+use operators::{INT, bit, int_of, put_int};
 
 // The lanes of a chunk.
 const CHUNK: usize = layout::instruction::CHUNK;
@@ -22,7 +24,7 @@ pub fn whole(kind: Kind, n: usize) -> usize
     ensures { result ≡ whole kind n }
 {
     match kind {
-        Kind::Int | Kind::Float => n * int_counts,
+        Kind::Int | Kind::Float => n * INT,
         Kind::Bool => n,
     }
 }
@@ -161,8 +163,8 @@ pub fn ints16(memory: &[u8], at: usize) -> [u32; 16]
     let mut r = [0u32; 16];
     let mut i = 0usize;
     while i < 16 {
-        let from = at + i * int_counts;
-        let to = from + int_counts;
+        let from = at + i * INT;
+        let to = from + INT;
         r[i] = int_of(&memory[from..to]);
         i += 1;
     }
@@ -177,8 +179,8 @@ fn ints(memory: &[u8], at: usize, n: usize) -> [u32; 16]
     let mut r = [0u32; 16];
     let mut i = 0usize;
     while i < n {
-        let from = at + i * int_counts;
-        let to = from + int_counts;
+        let from = at + i * INT;
+        let to = from + INT;
         r[i] = int_of(&memory[from..to]);
         i += 1;
     }
@@ -216,7 +218,7 @@ pub fn load(kind: Kind, memory: &[u8], at: usize, n: usize) -> [u32; 16]
 
 // A mask as lanes.
 pub fn mask_lanes(mask: u64) -> [u32; 16]
-    ensures { result ≡ map lane-bit (bits chunk_lanes mask) }
+    ensures { result ≡ map lane_bit (bits chunk_lanes mask) }
 {
     let mut r = [0u32; 16];
     let mut i = 0usize;
@@ -316,8 +318,8 @@ fn store_ints(bytes: &mut [u8], mask: u64, x: [u32; 16], n: usize)
 {
     let mut i = 0usize;
     while i < n {
-        let from = i * int_counts;
-        let to = from + int_counts;
+        let from = i * INT;
+        let to = from + INT;
         put_if(&mut bytes[from..to], (mask >> i) & 1 == 1, x[i]);
         i += 1;
     }

@@ -1,4 +1,6 @@
 // One lane of singles, as its 32-bit pattern: each operation is the machine's, rounded once.
+#![tactic(auto)]
+
 pub mod chunk;
 
 ghost use Rattle.std.specs.Prelude.{◌≡◌, ◌≤◌};

@@ -1,0 +1,12 @@
+-- `blocks::orders` meets its contract. Assumes nothing.
+use Prim.Native.Nat.{◌-◌}
+use Rattle.meaning.specs.Running.{word_binary}
+use Rattle.operators.specs.Operators.{Order}
+use Rattle.laws.proofs.Making.{Zipping}
+use Rattle.blocks.proofs.orders.Given as goal
+
+abbrev pub invariant-loop-i : goal.invariant-loop-i
+invariant-loop-i l = Order l.operator × Zipping (word_binary l.operator) l.x l.y l.r l.i
+
+abbrev pub decreases-loop-i : goal.decreases-loop-i
+decreases-loop-i l = 16 - l.i

@@ -1,0 +1,10 @@
+-- `blocks::put` meets its contract. Assumes nothing.
+use Prim.Native.Nat.{◌-◌}
+use Rattle.blocks.proofs.Chunks.{Pasting}
+use Rattle.blocks.proofs.put.Given as goal
+
+abbrev pub invariant-loop-i : goal.invariant-loop-i
+invariant-loop-i l = Pasting l.initial.registers l.at l.x l.registers l.i
+
+abbrev pub decreases-loop-i : goal.decreases-loop-i
+decreases-loop-i l = 16 - l.i

@@ -1,0 +1,10 @@
+-- `blocks::truths` meets its contract. Assumes nothing.
+use Prim.Native.Nat.{◌-◌}
+use Rattle.blocks.proofs.Masks.{Counting}
+use Rattle.blocks.proofs.truths.Given as goal
+
+abbrev pub invariant-loop-i : goal.invariant-loop-i
+invariant-loop-i l = Counting l.x l.r l.i
+
+abbrev pub decreases-loop-i : goal.decreases-loop-i
+decreases-loop-i l = 16 - l.i

@@ -1,0 +1,11 @@
+-- `blocks::word_signs` meets its contract. Assumes nothing.
+use Prim.Native.Nat.{◌-◌}
+use Rattle.meaning.specs.Running.{word_unary}
+use Rattle.laws.proofs.Making.{Mapping}
+use Rattle.blocks.proofs.word_signs.Given as goal
+
+abbrev pub invariant-loop-i : goal.invariant-loop-i
+invariant-loop-i l = Mapping (word_unary l.operator) l.x l.r l.i
+
+abbrev pub decreases-loop-i : goal.decreases-loop-i
+decreases-loop-i l = 16 - l.i

@@ -1,0 +1,12 @@
+-- `floats::chunk::orders` meets its contract. Assumes nothing.
+use Prim.Native.Nat.{◌-◌}
+use Rattle.meaning.specs.Running.{float_binary}
+use Rattle.floats.specs.Comparisons.{Compares}
+use Rattle.laws.proofs.Making.{Zipping}
+use Rattle.floats.proofs.chunk.orders.Given as goal
+
+abbrev pub invariant-loop-i : goal.invariant-loop-i
+invariant-loop-i l = Compares l.operator × Zipping (float_binary l.operator) l.x l.y l.r l.i
+
+abbrev pub decreases-loop-i : goal.decreases-loop-i
+decreases-loop-i l = 16 - l.i

@@ -1,0 +1,12 @@
+-- `floats::chunk::sums` meets its contract. Assumes nothing.
+use Prim.Native.Nat.{◌-◌}
+use Rattle.meaning.specs.Running.{float_binary}
+use Rattle.operators.specs.Operators.{Sum}
+use Rattle.laws.proofs.Making.{Zipping}
+use Rattle.floats.proofs.chunk.sums.Given as goal
+
+abbrev pub invariant-loop-i : goal.invariant-loop-i
+invariant-loop-i l = Sum l.operator × Zipping (float_binary l.operator) l.x l.y l.r l.i
+
+abbrev pub decreases-loop-i : goal.decreases-loop-i
+decreases-loop-i l = 16 - l.i
