@@ -2,11 +2,9 @@
 use Prim.Native.Nat.{ℕ, suc, ◌+◌, ◌*◌, ◌-◌, ◌≤◌, ◌<◌}
 use mathlib.Core.Path.{◌≡◌, sym, ap, ◌∙◌}
 use mathlib.Core.List.{List}
-use native.Mathlib.Nat.{mul-div_cancel'}
 use native.Mathlib.Omega.{arith}
-use lib.ListN.{length, get_or, take}
+use lib.ListN.{length, take}
 use lib.Seq.{length-take-le, get_or-take}
-use Rattle.meaning.specs.Codes.{text_limit}
 use Rattle.meaning.specs.Tokens.{Token, end_at, the}
 use Rattle.layout.specs.declared.Stage.{Stage}
 use Rattle.layout.specs.declared.Stage.TheVariants.{Done}

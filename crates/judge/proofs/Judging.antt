@@ -1,6 +1,6 @@
 -- What the stages say, one after another, is what judging says.
 use Prim.Native.Nat.{ℕ, ◌≤◌}
-use mathlib.Core.Path.{◌≡◌, refl, sym, ap, ◌∙◌}
+use mathlib.Core.Path.{◌≡◌, refl, sym, ◌∙◌}
 use mathlib.Core.List.{List}
 use native.Mathlib.Omega.{arith}
 use lib.ListN.{length, take}
@@ -8,7 +8,6 @@ use lib.Seq.{length-take-le}
 use Rattle.meaning.specs.declared.Refusal.{Refusal}
 use Rattle.meaning.specs.Codes.{Out, ok, refused, nesting_limit}
 use Rattle.meaning.specs.Tokens.{Token, lexed}
-use Rattle.meaning.specs.Tree.{Stmts}
 use Rattle.meaning.specs.Reading.{read}
 use Rattle.meaning.specs.Program.{Program, nothing}
 use Rattle.meaning.specs.Memory.{Declarations}
@@ -19,7 +18,6 @@ use Rattle.layout.specs.declared.Stage.TheVariants.{Done, Refused}
 use Rattle.laws.proofs.Tokens.{lexed_accepted, lexed_short}
 use Rattle.laws.proofs.Reading.{walkable}
 use Rattle.tokens.specs.Lexing.{Lexes}
-use Rattle.reading_expressions.specs.Contract.{outcome}
 use Rattle.reading.specs.Contract.{TextIs, ReadsText}
 use Rattle.typing_expressions.specs.Answers.{ThereIs}
 use Rattle.typing.specs.Answers.{program_out, ProgramRoom, TypesProgram}

@@ -1,4 +1,6 @@
 // A text to its verdict: its tokens, their tree, and what typing makes of it.
+#![tactic(auto)]
+
 ghost use Rattle.judge.specs.Contract.{JudgingRoom, JudgesText};
 
 use layout::Stage;

@@ -4,7 +4,7 @@ use Rattle.std.proofs.Math.Option.{Option, none, some}
 use Rattle.std.proofs.lemmas.List.Edits.{sets}
 use Rattle.meaning.specs.declared.Kind.{Kind}
 use Rattle.meaning.specs.declared.Refusal.{Refusal}
-use Rattle.meaning.specs.Codes.{Out, ok, refused, ◌>>=◌, ◌>>◌, give, if◌then◌else◌}
+use Rattle.meaning.specs.Codes.{Out, ok, refused, ◌>>=◌, ◌>>◌, give, when◌then◌else◌}
 use Rattle.meaning.specs.Tokens.{Token, the}
 use Rattle.meaning.specs.Tree.{Expr, Block, Stmt, Stmts, none_yet, ◌⨾◌}
 use Rattle.meaning.specs.Reading.{Reads, After, look, next, expect, as_long, no_room, expression, block, condition, opening, statement, sequence, read}
@@ -23,7 +23,7 @@ valued ts r = do q ← expect ts "="; e ← expression ts r; expect ts ";"; give
 unfoldable pub initial : List Token → ℕ → Reads (Option (ℕ × Expr))
 initial ts r = do
   t ← look ts
-  if eqb t.is (the ";") then (λ _. do next ts; give none) else λ _. do v ← valued ts r; give (some v)
+  when eqb t.is (the ";") then (λ _. do next ts; give none) else λ _. do v ← valued ts r; give (some v)
 
 -- What a branch or a body is, where r more levels may open.
 unfoldable pub inner : List Token → ℕ → After Stmt
@@ -43,7 +43,7 @@ other ts r = do expect ts "else"; opening ts (inner ts r)
 unfoldable pub one_more : List Token → ℕ → ℕ → Stmts → Reads (Option Stmts)
 one_more ts close r l = do
   t ← look ts
-  if eqb t.is close then (λ _. give none) else λ _. do s ← statement ts r; give (some (l ⨾ s))
+  when eqb t.is close then (λ _. give none) else λ _. do s ← statement ts r; give (some (l ⨾ s))
 
 -- Statements up to a token of that kind, which is not read.
 unfoldable pub listed : List Token → ℕ → ℕ → Reads Stmts

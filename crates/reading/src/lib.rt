@@ -1,4 +1,6 @@
 // Reads a text's tokens in a lent buffer to its tree in a lent buffer: refusals 3 and 4.
+#![tactic(auto)]
+
 ghost use Rattle.std.specs.Prelude.{◌≡◌, ◌+◌, ◌≤◌, ◌<◌, length};
 ghost use Rattle.meaning.specs.Codes.{◌among◌};
 ghost use Rattle.meaning.specs.Tokens.{the};
@@ -197,7 +199,7 @@ fn condition(tokens: &[u32], at: usize, room: u32, tree: &mut [u32], size: usize
 }
 
 // Reads a branch or a body, which opens a level at its first token.
-#[cycle(braces_if_else_opening_otherwise_scalar_statement_statements_while_loop)]
+#[cycle(nested_statements)]
 fn opening(tokens: &[u32], at: usize, room: u32, tree: &mut [u32], size: usize) -> Stage
     requires { ReadyToRead tokens.now at tree.old size }
     ensures { ReadsOpening room tokens.now at tree.old size tree.new result }
@@ -212,7 +214,7 @@ fn opening(tokens: &[u32], at: usize, room: u32, tree: &mut [u32], size: usize) 
 }
 
 // Reads `else` and the branch after it.
-#[cycle(braces_if_else_opening_otherwise_scalar_statement_statements_while_loop)]
+#[cycle(nested_statements)]
 fn otherwise(tokens: &[u32], at: usize, room: u32, tree: &mut [u32], size: usize) -> Stage
     requires { ReadyToRead tokens.now at tree.old size }
     ensures { ReadsOtherwise room tokens.now at tree.old size tree.new result }
@@ -225,7 +227,7 @@ fn otherwise(tokens: &[u32], at: usize, room: u32, tree: &mut [u32], size: usize
 }
 
 // Reads an `if`.
-#[cycle(braces_if_else_opening_otherwise_scalar_statement_statements_while_loop)]
+#[cycle(nested_statements)]
 fn if_else(tokens: &[u32], at: usize, room: u32, tree: &mut [u32], size: usize) -> Stage
     requires ready_to_read { ReadyToRead tokens.now at tree.old size }
     requires at_value { kind_at tokens.now at ≡ the "if" }
@@ -256,7 +258,7 @@ fn if_else(tokens: &[u32], at: usize, room: u32, tree: &mut [u32], size: usize) 
 }
 
 // Reads a `while`.
-#[cycle(braces_if_else_opening_otherwise_scalar_statement_statements_while_loop)]
+#[cycle(nested_statements)]
 fn while_loop(tokens: &[u32], at: usize, room: u32, tree: &mut [u32], size: usize) -> Stage
     requires ready_to_read { ReadyToRead tokens.now at tree.old size }
     requires at_value { kind_at tokens.now at ≡ the "while" }
@@ -279,7 +281,7 @@ fn while_loop(tokens: &[u32], at: usize, room: u32, tree: &mut [u32], size: usiz
 }
 
 // Reads a `scalar`.
-#[cycle(braces_if_else_opening_otherwise_scalar_statement_statements_while_loop)]
+#[cycle(nested_statements)]
 fn scalar(tokens: &[u32], at: usize, room: u32, tree: &mut [u32], size: usize) -> Stage
     requires ready_to_read { ReadyToRead tokens.now at tree.old size }
     requires at_value { kind_at tokens.now at ≡ the "scalar" }
@@ -294,7 +296,7 @@ fn scalar(tokens: &[u32], at: usize, room: u32, tree: &mut [u32], size: usize) -
 }
 
 // Reads statements up to a token of the kind `close`.
-#[cycle(braces_if_else_opening_otherwise_scalar_statement_statements_while_loop)]
+#[cycle(nested_statements)]
 fn statements(
     close: u32,
     tokens: &[u32],
@@ -324,7 +326,7 @@ fn statements(
 }
 
 // Reads a sequence in braces.
-#[cycle(braces_if_else_opening_otherwise_scalar_statement_statements_while_loop)]
+#[cycle(nested_statements)]
 fn braces(tokens: &[u32], at: usize, room: u32, tree: &mut [u32], size: usize) -> Stage
     requires ready_to_read { ReadyToRead tokens.now at tree.old size }
     requires at_value { kind_at tokens.now at ≡ the "{" }
@@ -353,7 +355,7 @@ fn braces(tokens: &[u32], at: usize, room: u32, tree: &mut [u32], size: usize) -
 }
 
 // Reads a statement, where `room` more levels of nesting may open.
-#[cycle(braces_if_else_opening_otherwise_scalar_statement_statements_while_loop)]
+#[cycle(nested_statements)]
 fn statement(tokens: &[u32], at: usize, room: u32, tree: &mut [u32], size: usize) -> Stage
     requires { ReadyToRead tokens.now at tree.old size }
     ensures { ReadsStatement room tokens.now at tree.old size tree.new result }

@@ -15,10 +15,10 @@ use lib.Seq.{drop-cons}
 use borrow.Author.Tests.{eq-eqb, ne_eqb, eqb-true}
 use Rattle.meaning.specs.declared.Refusal.{Refusal}
 use Rattle.meaning.specs.declared.Refusal.TheVariants.{NotAllowed, TooDeep}
-use Rattle.meaning.specs.Codes.{Out, ok, refused, after, give, repeat, option, if◌then◌else◌, ◌among◌}
+use Rattle.meaning.specs.Codes.{Out, ok, refused, after, give, repeat, option, when◌then◌else◌, ◌among◌}
 use Rattle.meaning.specs.Tokens.{Token, the, words, marks, numbered, reserved, signs}
 use Rattle.meaning.specs.declared.Unary.{Unary}
-use Rattle.meaning.specs.declared.Unary.TheVariants.{Neg as neg, Inv as inv, Not as not}
+use Rattle.meaning.specs.declared.Unary.TheVariants.{Neg as neg, Inv as inv, Not as unary_not}
 use Rattle.meaning.specs.declared.Binary.{Binary}
 use Rattle.meaning.specs.Tree.{table, unary_table, levels, Expr, number, float_number, boolean, name, current_mask, unary, binary}
 use Rattle.meaning.specs.Reading.{Reads, After, ◌⇒◌, operator, look, next, choose, expect, as_long, more, binaries, operand, no_room, closed, unaries, expression, parenthesised}
@@ -73,7 +73,7 @@ pub record Signed (k : ℕ) : Type 0 where
 
 pub signed : (k : ℕ) → signs_at k ≡ true → Signed k
 unfolding signs_at
-signed k e = go (neg ∷ inv ∷ not ∷ []) e
+signed k e = go (neg ∷ inv ∷ unary_not ∷ []) e
   where
     go : (os : List Unary) → (k among map (λ o. the (unary_table o).0) os) ≡ true → Signed k
     go [] e = let z : ◌≡◌ {A = ℕ} 0 1 = cc in absurd (omega arith)
@@ -92,7 +92,7 @@ sign_bounds k e = go (signed k e).sign (signed k e).is
     go : (o : Unary) → k ≡ the (unary_table o).0 → (0 < k) × (k < 128)
     go neg e = omega arith
     go inv e = omega arith
-    go not e = omega arith
+    go unary_not e = omega arith
 
 pub sign_above : (k : ℕ) → signs_at k ≡ true → 0 < k
 sign_above k e = (sign_bounds k e).0
@@ -138,7 +138,7 @@ module _ {ts : List Token} {at k p v : ℕ} (r : ℕ) (t : Seen ts at k p v) whe
       go : (o : Unary) → k ≡ the (unary_table o).0 → unaries ts r at ≡ after (deeper ts r (token_at ts at) (at + 1)) (λ e. give (unary p o e))
       go neg e = rw (unaries_is, add-one, t.is, e, t.place)
       go inv e = rw (unaries_is, add-one, t.is, e, t.place)
-      go not e = rw (unaries_is, add-one, t.is, e, t.place)
+      go unary_not e = rw (unaries_is, add-one, t.is, e, t.place)
 
   pub read_open : k ≡ 55 → unaries ts r at ≡ parenthesised ts r (token_at ts at) (at + 1)
   unfolding operand choose look next ◌⇒◌ the numbered reserved signs words marks unary_table
@@ -252,7 +252,7 @@ unfolding operator binary_tag
 operator-sign k [] o e = let z : ◌≡◌ {A = ℕ} 0 1 = cc in absurd (omega arith)
 operator-sign k (a ∷ os) o e = go (eqb k (the (table a).0)) refl e (operator-sign k os o)
   where
-    go : (b : Bool) → eqb k (the (table a).0) ≡ b → (if b then (λ _. some a) else λ _. operator k os) ≡ some o → (operator k os ≡ some o → binary_tag o ≡ k) → binary_tag o ≡ k
+    go : (b : Bool) → eqb k (the (table a).0) ≡ b → (when b then (λ _. some a) else λ _. operator k os) ≡ some o → (operator k os ≡ some o → binary_tag o ≡ k) → binary_tag o ≡ k
     go true is found rest = let same : a ≡ o = cc in rw (← same) (sym (eqb-true k (the (table a).0) is))
     go false is found rest = rest found
 

@@ -5,7 +5,7 @@ use Rattle.meaning.specs.declared.Refusal.{Refusal}
 use Rattle.meaning.specs.declared.Refusal.TheVariants.{NotAllowed}
 use Rattle.meaning.specs.Codes.{Out, ok, refused, option, ◌among◌, text_limit}
 use Rattle.meaning.specs.Tokens.{Token, end_at, the}
-use Rattle.meaning.specs.declared.Unary.TheVariants.{Neg as neg, Inv as inv, Not as not}
+use Rattle.meaning.specs.declared.Unary.TheVariants.{Neg as neg, Inv as inv, Not as unary_not}
 use Rattle.meaning.specs.Tree.{unary_table, levels, Expr}
 use Rattle.meaning.specs.Reading.{Reads, operator, binaries, unaries, parenthesised, expression}
 use Rattle.layout.specs.Tokens.{token_words, kind_at, place_at, Holds}
@@ -121,4 +121,4 @@ pub record Level (k level : ℕ) : Type 0 where
 
 -- Is it a unary one?
 unfoldable pub signs_at : ℕ → Bool
-signs_at k = k among map (λ o. the (unary_table o).0) (neg ∷ inv ∷ not ∷ [])
+signs_at k = k among map (λ o. the (unary_table o).0) (neg ∷ inv ∷ unary_not ∷ [])

@@ -1,4 +1,6 @@
 // Reads expressions: tokens in a lent buffer to words in a lent tree.
+#![tactic(auto)]
+
 ghost use Rattle.std.specs.Prelude.{◌≡◌, ◌+◌, ◌*◌, ◌≤◌, true, false, length};
 ghost use Rattle.meaning.specs.Tokens.{the};
 ghost use Rattle.layout.specs.Tokens.{token_words, kind_at, place_at};
@@ -130,7 +132,7 @@ fn leaf(tokens: &[u32], at: usize, tree: &mut [u32], size: usize) -> Stage
 }
 
 // Reads an operand, where `room` more levels of nesting may open.
-#[cycle(binary_operand_parenthesised_unary)]
+#[cycle(nested_operands)]
 fn operand(tokens: &[u32], at: usize, room: u32, tree: &mut [u32], size: usize) -> Stage
     requires { ReadyToRead tokens.now at tree.old size }
     ensures { ReadsOperand room tokens.now at tree.old size tree.new result }
@@ -146,7 +148,7 @@ fn operand(tokens: &[u32], at: usize, room: u32, tree: &mut [u32], size: usize) 
 }
 
 // Reads a unary operator, which opens a level, and its operand.
-#[cycle(binary_operand_parenthesised_unary)]
+#[cycle(nested_operands)]
 fn unary(tokens: &[u32], at: usize, room: u32, tree: &mut [u32], size: usize) -> Stage
     requires ready_to_read { ReadyToRead tokens.now at tree.old size }
     requires at_value { signs_at (kind_at tokens.now at) ≡ true }
@@ -168,7 +170,7 @@ fn unary(tokens: &[u32], at: usize, room: u32, tree: &mut [u32], size: usize) ->
 }
 
 // Reads an expression and the `)` after it; the token at `at` is its `(`, which opens a level.
-#[cycle(binary_operand_parenthesised_unary)]
+#[cycle(nested_operands)]
 pub fn parenthesised(tokens: &[u32], at: usize, room: u32, tree: &mut [u32], size: usize) -> Stage
     requires { ReadyToRead tokens.now (at + 1) tree.old size }
     ensures { ReadsParenthesised room tokens.now at tree.old size tree.new result }
@@ -185,7 +187,7 @@ pub fn parenthesised(tokens: &[u32], at: usize, room: u32, tree: &mut [u32], siz
 
 // Reads operands joined by operators of the level or of tighter ones. What is read so far is a part of what the level `last` reads,
 // so an operator of that level or of a looser one goes on with it, and any other token ends it.
-#[cycle(binary_operand_parenthesised_unary)]
+#[cycle(nested_operands)]
 fn binary(level: u32, tokens: &[u32], at: usize, room: u32, tree: &mut [u32], size: usize) -> Stage
     requires ready_to_read { ReadyToRead tokens.now at tree.old size }
     requires level_le_operands_level { level ≤ operands_level }

@@ -9,7 +9,7 @@ use native.Mathlib.Omega.{arith}
 use lib.Dec.{eqb}
 use lib.ListN.{length, get_or}
 use borrow.Author.Tests.{eq-eqb, ne_eqb, eqb-true, eqb-false, not-true}
-use Rattle.meaning.specs.Codes.{if◌then◌else◌, lookup}
+use Rattle.meaning.specs.Codes.{when◌then◌else◌, lookup}
 use Rattle.meaning.specs.Tokens.{Piece, bad, token, bytes, signs, numbered, marks, starts, sign}
 use Rattle.tokens.specs.declared.Lexeme.TheVariants.{Token, Bad}
 use Rattle.tokens.specs.Lexing.{blank, paired, sign_kind, lexeme}
@@ -155,8 +155,8 @@ module _ (b : ℕ) where
       (λ o. absurd (none-ne-some n (sym (shorts_end (r ∷ l) k o) ∙ e)))
     where
       go : (with b equals (numbered (suc k) l) ≡ some n → sign (numbered (suc k) l) (b ∷ equals ∷ []) ≡ token n 0 [] 2) → (g : Bool)
-          → (if g then (λ _. some k) else λ _. with b equals (numbered (suc k) l)) ≡ some n
-          → (if g then (λ _. token k 0 [] 2) else λ _. sign (numbered (suc k) l) (b ∷ equals ∷ [])) ≡ token n 0 [] 2
+          → (when g then (λ _. some k) else λ _. with b equals (numbered (suc k) l)) ≡ some n
+          → (when g then (λ _. token k 0 [] 2) else λ _. sign (numbered (suc k) l) (b ∷ equals ∷ [])) ≡ token n 0 [] 2
       go later true e' = let is : k ≡ n = cc in rw is
       go later false e' = later e'
 
@@ -170,8 +170,8 @@ module _ (b c : ℕ) where
       (go (shorts_only l (suc k) (and_r (short (bytes r)) (every short l) h)) (paired (bytes r) b blank))
     where
       go : sign (numbered (suc k) l) (b ∷ c ∷ []) ≡ piece_of 1 (with b blank (numbered (suc k) l)) → (g : Bool)
-          → (if g then (λ _. token k 0 [] 1) else λ _. sign (numbered (suc k) l) (b ∷ c ∷ []))
-          ≡ piece_of 1 (if g then (λ _. some k) else λ _. with b blank (numbered (suc k) l))
+          → (when g then (λ _. token k 0 [] 1) else λ _. sign (numbered (suc k) l) (b ∷ c ∷ []))
+          ≡ piece_of 1 (when g then (λ _. some k) else λ _. with b blank (numbered (suc k) l))
       go later true = refl
       go later false = later
 
@@ -187,11 +187,11 @@ module _ (b c : ℕ) where
       (short_next l (suc k) (and_r (long (bytes r)) (ordered l) o) (λ e. later (paired (bytes r) b equals) (none_long e))))
       (shorts_only (r ∷ l) k)
     where
-      later : (g : Bool) → (if g then (λ _. some k) else λ _. with b equals (numbered (suc k) l)) ≡ none → with b equals (numbered (suc k) l) ≡ none
+      later : (g : Bool) → (when g then (λ _. some k) else λ _. with b equals (numbered (suc k) l)) ≡ none → with b equals (numbered (suc k) l) ≡ none
       later true e = absurd (none-ne-some k (sym e))
       later false e = e
 
-      missed : (g : Bool) → (if g then (λ _. some k) else λ _. with b equals (numbered (suc k) l)) ≡ none → g ≡ false
+      missed : (g : Bool) → (when g then (λ _. some k) else λ _. with b equals (numbered (suc k) l)) ≡ none → g ≡ false
       missed true e = absurd (none-ne-some k (sym e))
       missed false e = refl
 

@@ -9,7 +9,7 @@ use lib.Seq.{sets, length-sets}
 use borrow.Author.Rules.{part_to_end}
 use borrow.Author.Tests.{eq-eqb, ne_eqb, le-leb, lt-leb}
 use Rattle.meaning.specs.declared.Refusal.TheVariants.{TextTooLong, BadBytes}
-use Rattle.meaning.specs.Codes.{ok, if◌then◌else◌, text_limit}
+use Rattle.meaning.specs.Codes.{ok, when◌then◌else◌, text_limit}
 use Rattle.meaning.specs.Tokens.{Token, Piece, over, bad, gap, token, piece, end_at, the, tokens, lexed}
 use Rattle.layout.specs.Words.{unit}
 use Rattle.layout.specs.Tokens.{token_words, TokenRow, Holds}
@@ -30,7 +30,7 @@ record TokenTold (p k w n : ℕ) (q : Piece) : Type 0 where
   value : ℕ
   bytes : List ℕ
   is : q ≡ token k value bytes n
-  beside : w ≡ (if eqb k (the "name") then (λ _. p + n) else λ _. value)
+  beside : w ≡ (when eqb k (the "name") then (λ _. p + n) else λ _. value)
 
 -- From what the code answers to the piece that stands there.
 told_gap : (p n : ℕ) (q : Piece) → Gap n ≡ lexeme p q → q ≡ gap n
@@ -48,7 +48,7 @@ told-token p k w n (gap m) e = let z : ◌≡◌ {A = ℕ} 0 1 = cc in absurd (o
 told-token p k w n (token i v x m) e =
     let a : k ≡ i = cc in
     let b : n ≡ m = cc in
-    let c : w ≡ (if eqb i (the "name") then (λ _. p + m) else λ _. v) = cc in
+    let c : w ≡ (when eqb i (the "name") then (λ _. p + m) else λ _. v) = cc in
     record { value = v; bytes = x; is = rw (a, b); beside = rw (a, b) c }
 
 told_bad : (p : ℕ) (s : List ℕ) (q : Piece) → Fair s q → 0 < length s → Bad ≡ lexeme p q → q ≡ bad
@@ -76,7 +76,7 @@ fair_token : {s x : List ℕ} {k v n : ℕ} → Fair s (token k v x n) → Taken
 fair_token (taken t) = t
 
 -- The row of a token, and that of the end.
-token_row : {s x : List ℕ} {k p v w n : ℕ} → Taken s k v x n → w ≡ (if eqb k (the "name") then (λ _. p + n) else λ _. v)
+token_row : {s x : List ℕ} {k p v w n : ℕ} → Taken s k v x n → w ≡ (when eqb k (the "name") then (λ _. p + n) else λ _. v)
     → TokenRow k p w (record { is = k; place = p; value = v; spelled = x })
 token_row {k = k} {p} {v} {w} {n} t beside =
     record {

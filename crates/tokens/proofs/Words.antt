@@ -9,7 +9,7 @@ use native.Mathlib.Omega.{arith}
 use borrow.Author.Tests.{ne_eqb, eqb-true, le-leb, lt-leb, leb-true, ltb-true}
 use lib.Dec.{eqb, leb, ltb}
 use lib.ListN.{length}
-use Rattle.meaning.specs.Codes.{if◌then◌else◌, option, lookup, name_limit}
+use Rattle.meaning.specs.Codes.{when◌then◌else◌, option, lookup, name_limit}
 use Rattle.meaning.specs.Memory.{number_of}
 use Rattle.meaning.specs.Tokens.{bad, token, bytes, reserved, numbered, words, the, word, digit, letter, letter_or_digit, run_of}
 use Rattle.tokens.specs.declared.Lexeme.TheVariants.{Token, Bad}
@@ -27,7 +27,7 @@ module _ (at : ℕ) (s : List ℕ) where
   unfolding word_kind word lexeme
   reserved-word {k} is ne = rw (told_some (found s words) (is ∙ rw the_name) ne, the_name, ne_eqb k 2 ne)
 
-  name_word : 2 ≡ word_kind s → word s ≡ (if leb (length s) name_limit then (λ _. token (the "name") 0 s (length s)) else λ _. bad)
+  name_word : 2 ≡ word_kind s → word s ≡ (when leb (length s) name_limit then (λ _. token (the "name") 0 s (length s)) else λ _. bad)
   unfolding word_kind word
   name_word is = rw (told_none (found s words) (is ∙ rw the_name) (λ n h. let le = reserved_from s h in omega arith))
 

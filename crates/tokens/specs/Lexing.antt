@@ -1,7 +1,7 @@
 -- What the lexer promises: its answer and the buffer are exactly the definition's tokens, or its refusal.
 use Rattle.std.specs.Prelude.{ℕ, zero, suc, ◌+◌, ◌*◌, ◌≤◌, min, ◌≡◌, Bool, ◌&&◌, List, [], ◌∷◌, ◌++◌, eqb, length, get_or, take, drop}
 use Prim.Native.String.{String}
-use Rattle.meaning.specs.Codes.{Out, ok, refused, if◌then◌else◌, option, lookup, text_limit}
+use Rattle.meaning.specs.Codes.{Out, ok, refused, when◌then◌else◌, option, lookup, text_limit}
 use Rattle.meaning.specs.Tokens.{Token, Piece, over, bad, gap, token, the, bytes, equal, words, marks, space, digit, letter_or_digit, in_line, run_of, constant, numeral, lexed}
 use Rattle.meaning.specs.Memory.{number_of}
 use Rattle.layout.specs.Sizes.{token_room}
@@ -117,4 +117,4 @@ unfoldable pub lexeme : ℕ → Piece → Lexeme
 lexeme p over = Bad
 lexeme p bad = Bad
 lexeme p (gap n) = Gap n
-lexeme p (token k v x n) = OneToken k (if eqb k (the "name") then (λ _. p + n) else λ _. v) n
+lexeme p (token k v x n) = OneToken k (when eqb k (the "name") then (λ _. p + n) else λ _. v) n

@@ -1,4 +1,6 @@
 // Text to tokens, in one pass from left to right. The reserved words and the signs are lists, in `word` and in `sign`.
+#![tactic(auto)]
+
 mod sign;
 mod word;
 
@@ -50,7 +52,7 @@ pub fn lex(text: &[u8], tokens: &mut [u32]) -> Stage
 }
 
 // What stands at a place of the text: so many bytes between tokens; a token's kind, value and length; what no rule allows.
-#[derive(Drop)]
+#[derive(Clone, Copy)]
 enum Lexeme {
     Gap(usize),
     Token(u32, u32, usize),
@@ -166,7 +168,7 @@ fn with_digit(value: u32, b: u8) -> u64
 }
 
 // A class of bytes.
-#[derive(Drop)]
+#[derive(Clone, Copy)]
 enum Class {
     Space,
     Digit,

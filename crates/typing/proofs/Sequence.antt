@@ -63,7 +63,7 @@ module _ (C : ℕ) where
   typed_order none_yet Γ = refl
   typed_order (l ⨾ s) Γ = rw (typed_order l Γ) (sym (on_append (in_order l) (s ∷ []) nothing Γ))
 
--- Each-walkable can be gone through.
+-- EachWalkable can be gone through.
 pub data EachWalkable (text : List ℕ) (r : ℕ) : List Stmt → Type 0 where
   none : EachWalkable text r []
   more : {s : Stmt} {l : List Stmt} → Walkable text r s → EachWalkable text r l → EachWalkable text r (s ∷ l)

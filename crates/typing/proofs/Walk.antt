@@ -10,7 +10,7 @@ use Rattle.meaning.specs.Codes.{Out, ok, after}
 use Rattle.meaning.specs.Tokens.{the, numbered, reserved, words, signs, marks}
 use Rattle.meaning.specs.Tree.{Stmt, Stmts}
 use Rattle.meaning.specs.Program.{Code, Program, nothing, choice, cycle, alone}
-use Rattle.meaning.specs.Memory.{Declarations, need}
+use Rattle.meaning.specs.Memory.{Declarations}
 use Rattle.meaning.specs.Typing.{joined, typed_condition, typed_statement, typed_statements, typed_program, scope}
 use Rattle.layout.specs.Words.{unit, headed}
 use Rattle.layout.specs.Heads.{place_word, condition_word}

@@ -11,7 +11,7 @@ use lib.Dec.{eqb}
 use lib.ListN.{length, get_or, drop, length-append, length-drop, drop_of_length-le, get_or-append}
 use lib.Seq.{drop-cons, get_or-take, get_or-drop, get_or_at, length-take-le}
 use borrow.Author.Tests.{eq-eqb, ne_eqb, eqb-true, eqb-false}
-use Rattle.meaning.specs.Codes.{if◌then◌else◌}
+use Rattle.meaning.specs.Codes.{when◌then◌else◌}
 use Rattle.meaning.specs.Tokens.{equal, starts}
 use Rattle.meaning.specs.Memory.{Declared}
 use Rattle.meaning.specs.Typing.{find}
@@ -116,7 +116,7 @@ next_row {text} {table} {count} {p} {e} {i} {from} {to} {live} r w s n ef et eo 
 
 module _ {text table : List ℕ} {count p e i from to live : ℕ} (r : Next text table count p e i from to live) where
   at_i : find (spelled text p e) i (drop i (entries text table count))
-      ≡ if eqb live 1 && equal (spelled text from to) (spelled text p e) then (λ _. some i) else λ _. find (spelled text p e) (suc i) (drop (suc i) (entries text table count))
+      ≡ when eqb live 1 && equal (spelled text from to) (spelled text p e) then (λ _. some i) else λ _. find (spelled text p e) (suc i) (drop (suc i) (entries text table count))
   unfolding find
   at_i = rw (
     drop-cons (entries text table count) i (entry text table i) (omega (arith, length-entries text table count, r.low)),

@@ -16,7 +16,7 @@ use Rattle.meaning.specs.declared.Kind.{Kind}
 use Rattle.meaning.specs.declared.Kind.TheVariants.{Int as int, Bool as bool, Float as float}
 use Rattle.meaning.specs.Tokens.{the, numbered, reserved, words, signs, marks}
 use Rattle.meaning.specs.declared.Unary.{Unary}
-use Rattle.meaning.specs.declared.Unary.TheVariants.{Neg as neg, Inv as inv, Not as not}
+use Rattle.meaning.specs.declared.Unary.TheVariants.{Neg as neg, Inv as inv, Not as unary_not}
 use Rattle.meaning.specs.declared.Binary.{Binary}
 use Rattle.meaning.specs.declared.Binary.TheVariants.{Or as or, Xor as xor, And as and, Eq as eq, Ne as ne, Lt as lt, Gt as gt, Le as le, Ge as ge, Add as add, Sub as sub, Mul as mul}
 use Rattle.meaning.specs.Tree.{kind_number, same_kind, ◌one_of◌, Gives, a_bool, its_kind, table, unary_table}
@@ -97,7 +97,7 @@ pub unary_low : (o : Unary) → 128 ≤ unary_tag o
 unfolding unary_tag unary_table the numbered reserved words signs marks
 unary_low neg = omega arith
 unary_low inv = omega arith
-unary_low not = omega arith
+unary_low unary_not = omega arith
 
 -- Each binary operator takes ints.
 pub takes_ints : (o : Binary) → true ≡ (int one_of (table o).1)

@@ -9,7 +9,7 @@ use lib.Dec.{eqb}
 use Rattle.meaning.specs.declared.Kind.{Kind}
 use Rattle.meaning.specs.declared.Kind.TheVariants.{Bool as bool}
 use Rattle.meaning.specs.declared.Refusal.TheVariants.{UnknownName, WrongKind, WrongLength, LengthOneTarget}
-use Rattle.meaning.specs.Codes.{if◌then◌else◌, Out, ok, after, check, option, refuse, give, ◌>>◌}
+use Rattle.meaning.specs.Codes.{when◌then◌else◌, Out, ok, after, check, option, refuse, give, ◌>>◌}
 use Rattle.meaning.specs.Tree.{Name, same_kind, ◌one_of◌, table as signs, unary_table, Expr, number, float_number, boolean, name, current_mask, unary, binary}
 use Rattle.meaning.specs.Memory.{Declared, Declarations, declared}
 use Rattle.meaning.specs.Typing as T
@@ -33,7 +33,7 @@ pub listed-joined : {n m : ℕ} → ListedLength n → ListedLength m → Listed
 unfolding joined
 listed-joined {n} {m} l k = go (eqb n 1)
   where
-    go : (b : Bool) → ListedLength (if b then (λ _. m) else λ _. n)
+    go : (b : Bool) → ListedLength (when b then (λ _. m) else λ _. n)
     go true = k
     go false = l
 
@@ -87,7 +87,7 @@ module _ {C count : ℕ} {text table : List ℕ} (c : ListedLength C) (r : Rows 
       Γ : Declarations
       Γ = entries text table count
 
-      own : (n : ℕ) → ListedLength n → (b : Bool) → eqb t.lanes 0 ≡ b → ListedLength (if b then (λ _. n) else λ _. t.lanes)
+      own : (n : ℕ) → ListedLength n → (b : Bool) → eqb t.lanes 0 ≡ b → ListedLength (when b then (λ _. n) else λ _. t.lanes)
       own n g true q = g
       own n g false q = l q
 

@@ -1,7 +1,7 @@
 -- What the answers for statements say: one definition turns each into the definition's outcome.
 use Rattle.std.specs.Prelude.{ℕ, ◌+◌, ◌≤◌, ◌≡◌, Bool, List, ◌++◌, eqb, length, get_or, take}
 use Rattle.meaning.specs.declared.Kind.{Kind}
-use Rattle.meaning.specs.Codes.{Out, ok, refused, ◌>>=◌, ◌>>◌, give, if◌then◌else◌, declaration_limit}
+use Rattle.meaning.specs.Codes.{Out, ok, refused, ◌>>=◌, ◌>>◌, give, when◌then◌else◌, declaration_limit}
 use Rattle.meaning.specs.Tree.{Expr, Block, Stmt}
 use Rattle.meaning.specs.Program.{Program}
 use Rattle.meaning.specs.Memory.{Declarations}
@@ -23,7 +23,7 @@ use Rattle.typing_simple.specs.Shapes.{listed_block, Empty, Condition}
 -- ---- the parts of a statement
 -- The target's length m, or the value's n where m is 0, for a declaration without `block`.
 unfoldable pub length_or : ℕ → ℕ → ℕ
-length_or m n = if eqb m 0 then (λ _. n) else λ _. m
+length_or m n = when eqb m 0 then (λ _. n) else λ _. m
 
 -- "the right side, then 8, 9, 10 at `=`": a value, typed, for a target.
 unfoldable pub valued : ℕ → Target → Expr → Types Typed

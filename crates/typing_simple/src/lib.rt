@@ -1,4 +1,6 @@
 // The simple statements, which hold no other: each is typed, its declaration put in the table and its program written.
+#![tactic(auto)]
+
 ghost use Rattle.std.specs.Prelude.{◌≡◌, ◌++◌, ℕ, ◌+◌, ◌≤◌, length, take};
 ghost use Rattle.meaning.specs.Program.{step};
 ghost use Rattle.meaning.specs.Typing as T;
@@ -15,7 +17,7 @@ use meaning::{Kind, Refusal};
 use typing_expressions::{Point, declare, expression, named, same_kind};
 
 // What an `=` writes to: the place of the `=`, a kind, and a length, or 0 for any.
-#[derive(Drop)]
+#[derive(Clone, Copy)]
 struct Target {
     place: usize,
     kind: Kind,

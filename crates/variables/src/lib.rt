@@ -1,4 +1,6 @@
 // The listing of variables: four numbers in a row for each declaration, as many as fit whole.
+#![tactic(auto)]
+
 ghost use Rattle.std.specs.Prelude.{◌≡◌, [], ◌*◌, ◌≤◌, length};
 ghost use Rattle.meaning.specs.Codes.{declaration_limit};
 ghost use Rattle.meaning.specs.Services.{listed};

@@ -1,0 +1,32 @@
+-- `typing::alone`, `typing::braces`, `typing::branch`, `typing::choice`, `typing::cycle`, `typing::statement`, `typing::statements` meet their contracts. Assumes nothing.
+use Prim.Native.Nat.{◌+◌, ◌*◌, ◌-◌}
+use lib.ListN.{length}
+use Rattle.typing.proofs.Sequence.{Sequel}
+use Rattle.typing.proofs.+nested_statements.Given as goal
+
+abbrev pub decreases-alone : goal.decreases-alone
+decreases-alone l = l.nest * 4 + 2
+
+abbrev pub decreases-braces : goal.decreases-braces
+decreases-braces l = l.nest * 4 + 2
+
+abbrev pub decreases-branch : goal.decreases-branch
+decreases-branch l = l.nest * 4 + 1
+
+abbrev pub decreases-choice : goal.decreases-choice
+decreases-choice l = l.nest * 4 + 2
+
+abbrev pub decreases-cycle : goal.decreases-cycle
+decreases-cycle l = l.nest * 4 + 2
+
+abbrev pub decreases-statement : goal.decreases-statement
+decreases-statement l = l.nest * 4
+
+abbrev pub decreases-statements : goal.decreases-statements
+decreases-statements l = l.nest * 4 + 1
+
+abbrev pub invariant-statements-loop-i : goal.invariant-statements-loop-i
+invariant-statements-loop-i l = Sequel l.text l.tree l.nest (record { context = l.context; count = l.initial.n; size = l.initial.z }) l.initial.table l.initial.code l.initial.stack l.table l.code l.stack l.i l.n l.z
+
+abbrev pub decreases-statements-loop-i : goal.decreases-statements-loop-i
+decreases-statements-loop-i l = length l.tree - l.i

@@ -1,0 +1,10 @@
+-- `typing_expressions::close` meets its contract. Assumes nothing.
+use Prim.Native.Nat.{◌-◌, ◌≤◌}
+use Rattle.typing_expressions.proofs.Tables.{Shut}
+use Rattle.typing_expressions.proofs.close.Given as goal
+
+abbrev pub invariant-loop-i : goal.invariant-loop-i
+invariant-loop-i l = Shut l.from l.i l.initial.table l.table × (l.from ≤ l.i) × (l.i ≤ l.count)
+
+abbrev pub decreases-loop-i : goal.decreases-loop-i
+decreases-loop-i l = l.count - l.i
