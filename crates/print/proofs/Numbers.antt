@@ -8,7 +8,7 @@ use native.Mathlib.Omega.{arith}
 use lib.Dec.{ltb}
 use lib.ListN.{length, get_or, length-append}
 use borrow.Author.Tests.{ltb-true, ltb-false, lt-ltb, le-ltb}
-use Rattle.meaning.specs.Codes.{if◌then◌else◌}
+use Rattle.meaning.specs.Codes.{when◌then◌else◌}
 use Rattle.meaning.specs.Tokens.{bytes}
 use Rattle.meaning.specs.Memory.{number_of}
 use Rattle.meaning.specs.Services.{answer}
@@ -23,7 +23,7 @@ digits_same (suc j) zero n h l = absurd (omega arith)
 digits_same (suc j) (suc k) n h l = go (ltb n 10) refl (λ big. digits_same j k (n / 10) (omega arith) (omega arith))
   where
     go : (b : Bool) → ltb n 10 ≡ b → (10 ≤ n → digits j (n / 10) ≡ digits k (n / 10))
-        → (if b then (λ _. digit n ∷ []) else λ _. digits j (n / 10) ++ (digit (n % 10) ∷ [])) ≡ (if b then (λ _. digit n ∷ []) else λ _. digits k (n / 10) ++ (digit (n % 10) ∷ []))
+        → (when b then (λ _. digit n ∷ []) else λ _. digits j (n / 10) ++ (digit (n % 10) ∷ [])) ≡ (when b then (λ _. digit n ∷ []) else λ _. digits k (n / 10) ++ (digit (n % 10) ∷ []))
     go true e tenth = refl
     go false e tenth = rw (tenth (ltb-false n 10 e))
 

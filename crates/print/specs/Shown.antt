@@ -1,6 +1,6 @@
 -- Document 01, "Checked by hand", the program: an answer and a memory as the bytes that are printed.
 use Rattle.std.specs.Prelude.{ℕ, zero, suc, ◌+◌, ◌*◌, ◌-◌, ◌/◌, ◌%◌, List, [], ◌∷◌, ◌++◌, ltb, length, take, drop, get_or}
-use Rattle.meaning.specs.Codes.{if◌then◌else◌}
+use Rattle.meaning.specs.Codes.{when◌then◌else◌}
 use Rattle.meaning.specs.Tokens.{bytes}
 use Rattle.meaning.specs.Memory.{Memory, number_of}
 use Rattle.meaning.specs.Services.{Answer, answer}
@@ -21,7 +21,7 @@ digit d = get_or (bytes "0123456789abcdef") d 0
 -- At most k digits of a number in decimal: its last is the remainder by ten, and those before it are the quotient's.
 unfoldable pub digits : ℕ → ℕ → List ℕ
 digits zero n = []
-digits (suc k) n = if ltb n 10 then (λ _. digit n ∷ []) else λ _. digits k (n / 10) ++ (digit (n % 10) ∷ [])
+digits (suc k) n = when ltb n 10 then (λ _. digit n ∷ []) else λ _. digits k (n / 10) ++ (digit (n % 10) ∷ [])
 
 -- A number in decimal, which has no more digits than itself and one.
 unfoldable pub decimal : ℕ → List ℕ

@@ -1,4 +1,6 @@
 // What the program `show` prints, as bytes in a lent page: the four numbers of an answer, then a memory in rows of hex.
+#![tactic(auto)]
+
 ghost use Rattle.std.specs.Prelude.{[], ◌∷◌, ◌++◌, ◌≡◌, ◌+◌, ◌≤◌, ◌<◌, min, length};
 ghost use Rattle.meaning.specs.Memory.{number_of};
 ghost use Rattle.meaning.specs.Services.{answer};

@@ -1,4 +1,6 @@
 // The services, as a collector calls them. None asks anything of its caller.
+#![tactic(auto)]
+
 ghost use Rattle.std.specs.Prelude.{◌≡◌, [], ◌∷◌, ◌*◌, ◌≤◌, length};
 ghost use Rattle.meaning.specs.Codes.{code};
 ghost use Rattle.meaning.specs.Services as S;
@@ -51,7 +53,7 @@ const FEW_WORDS: usize = 2 * UNIT * FEW - UNIT;
 const MORE_WORDS: usize = 2 * UNIT * MORE - UNIT;
 
 // Memories that are run one after another: the bytes of each, how many there are, and the steps that each may take.
-#[derive(Drop)]
+#[derive(Clone, Copy)]
 struct Batch {
     size: usize,
     count: usize,

@@ -3,13 +3,18 @@
 // Proved: the bytes that are handed to standard output are what is shown of that run, for the bytes that came from the two
 // files (`fill_page`), and the program is safe and ends. No contract can say what is read from a file or written to standard
 // output, so that these are the files' bytes, and that they arrive, is the word of the system.
+#![tactic(auto)]
+
 ghost use Rattle.std.specs.Prelude.{◌≤◌, length};
 ghost use Rattle.show.specs.Page.{memory_limit, page_limit, Shows};
 ghost use Rattle.show.specs.Reading.{count_of};
 
 use layout::limit;
-use libc::STDOUT_FILENO;
 use numbers::FOUR;
+use std::io::{Read, Write};
+use std::process::ExitCode;
+use std::rt::Files;
+use std::{fs, io};
 
 // The steps that a routine may take.
 const BUDGET: u32 = 1000;
@@ -27,7 +32,7 @@ const ROW: usize = 16;
 const PAGE: usize = 4 * (10 + 1) + MEMORY / ROW * (2 * ROW + 1);
 
 // What reading a file gives: so many bytes at the start of the buffer, or nothing, where it failed.
-#[derive(Drop)]
+#[derive(Clone, Copy)]
 enum Got {
     Bytes(usize),
     Nothing,
@@ -43,24 +48,32 @@ fn fill_page(text: &[u8], memory: &mut [u8], page: &mut [u8]) -> usize
     print::put_shown(page, &answer, memory)
 }
 
-// Reads once.
-fn read_once(file: i32, buffer: &mut [u8]) -> Got
-    ensures { count_of result ≤ length buffer.new }
-{
-    let got = libc::read(file, buffer);
-    if got < 0 {
-        return Got::Nothing;
-    }
-    Got::Bytes(io::count(got, buffer))
+// Says on standard error what could not be done, and why.
+fn tell(rt: &impl Eprint, trouble: &str, why: &io::Error) {
+    // Where that fails too, there is nobody left to tell.
+    let _ = eprintln!(rt; "show: cannot {trouble}: {why}");
 }
 
-// Reads until the buffer is full or the file ends.
-fn read_open(file: i32, buffer: &mut [u8]) -> Got
+// Reads once; where that fails, says why on standard error, after `trouble`.
+fn read_once<F: Read>(rt: &impl Eprint, file: &mut F, trouble: &str, buffer: &mut [u8]) -> Got
+    ensures { count_of result ≤ length buffer.new }
+{
+    match file.read(buffer) {
+        Ok(count) => Got::Bytes(count),
+        Err(why) => {
+            tell(rt, trouble, &why);
+            Got::Nothing
+        }
+    }
+}
+
+// Reads until the buffer is full or the file ends; where that fails, says why on standard error, after `trouble`.
+fn read_open<F: Read>(rt: &impl Eprint, file: &mut F, trouble: &str, buffer: &mut [u8]) -> Got
     ensures { count_of result ≤ length buffer.new }
 {
     let mut count = 0;
     while count < buffer.len() {
-        let Got::Bytes(more) = read_once(file, &mut buffer[count..]) else {
+        let Got::Bytes(more) = read_once(rt, file, trouble, &mut buffer[count..]) else {
             return Got::Nothing;
         };
         if more == 0 {
@@ -72,38 +85,33 @@ fn read_open(file: i32, buffer: &mut [u8]) -> Got
 }
 
 // Reads the start of a file, as much as the buffer holds; where that fails, says why on standard error, after `trouble`.
-fn read_start(path: &[u8], trouble: &[u8], buffer: &mut [u8]) -> Got
+fn read_start(rt: &(impl Files + Eprint), path: &str, trouble: &str, buffer: &mut [u8]) -> Got
     ensures { count_of result ≤ length buffer.new }
 {
-    let file = os::open_read(path);
-    if file < 0 {
-        os::fail(trouble);
-        return Got::Nothing;
+    match fs::open(rt, path) {
+        Ok(mut file) => read_open(rt, &mut file, trouble, buffer),
+        Err(why) => {
+            tell(rt, trouble, &why);
+            Got::Nothing
+        }
     }
-    let Got::Bytes(count) = read_open(file, buffer) else {
-        os::fail(trouble);
-        libc::close(file);
-        return Got::Nothing;
-    };
-    libc::close(file);
-    Got::Bytes(count)
 }
 
-// Reads the two files, and writes the page of their run to standard output.
-fn main() {
+// Reads the two files, and writes the page of their run to standard output; where that fails, ends with status 1.
+fn main(rt: HostRuntime) -> ExitCode {
     let mut text = [0u8; TEXT];
     let mut memory = [0u8; MEMORY];
     let mut page = [0u8; PAGE];
-    let Got::Bytes(length) = read_start(b"routine.txt", b"show: cannot read routine.txt", &mut text)
-    else {
-        return;
+    let Got::Bytes(length) = read_start(&rt, "routine.txt", "read routine.txt", &mut text) else {
+        return ExitCode::FAILURE;
     };
-    let Got::Bytes(size) = read_start(b"memory.bin", b"show: cannot read memory.bin", &mut memory)
-    else {
-        return;
+    let Got::Bytes(size) = read_start(&rt, "memory.bin", "read memory.bin", &mut memory) else {
+        return ExitCode::FAILURE;
     };
     let count = fill_page(&text[..length], &mut memory[..size], &mut page);
-    if !io::write_all(STDOUT_FILENO, &page[..count]) {
-        os::fail(b"show: cannot write to standard output");
+    if let Err(why) = io::writer(&rt).write_all(&page[..count]) {
+        tell(&rt, "write to standard output", &why);
+        return ExitCode::FAILURE;
     }
+    ExitCode::SUCCESS
 }

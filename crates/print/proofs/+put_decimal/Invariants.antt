@@ -1,0 +1,5 @@
+-- `print::put_decimal` goes as the definition does, by tenths.
+use Rattle.print.proofs.+put_decimal.Given as goal
+
+abbrev pub decreases-put_decimal : goal.decreases-put_decimal
+decreases-put_decimal l = l.number
