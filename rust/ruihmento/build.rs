@@ -1,5 +1,5 @@
 //! Links the proved archive: that of the folder in `RUIHMENTO_ARCHIVE_DIR`, or the one that
-//! `rt staticlib ruihmento` leaves at the repository's root.
+//! `./archive` at the repository's root leaves in `target/staticlib` there.
 
 use std::path::{Path, PathBuf};
 
@@ -40,8 +40,8 @@ fn folder() -> PathBuf {
 /// What to do where there is no archive.
 fn missing(archive: &Path) -> String {
     format!(
-        "there is no archive at {}: run `rt staticlib ruihmento` at the repository's root, or set \
-         {FOLDER} to the folder that has libruihmento.a",
+        "there is no archive at {}: run `./archive` at the repository's root, or set {FOLDER} \
+         to the folder that has libruihmento.a",
         archive.display()
     )
 }

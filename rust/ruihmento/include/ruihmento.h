@@ -1,7 +1,7 @@
 /*
  * Ruihmento: a proved judge and runner for lane routines.
  *
- * Link with the archive libruihmento.a, which `rt staticlib ruihmento` makes.
+ * Link with the archive libruihmento.a, which `./archive` makes.
  * It needs nothing but memcpy and memset.
  *
  * What holds of every function here:

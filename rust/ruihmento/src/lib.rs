@@ -44,8 +44,8 @@
 //!
 //! # The archive
 //!
-//! The build script links `libruihmento.a`, which `rt staticlib ruihmento` leaves in
-//! `target/staticlib` at the repository's root. The environment variable `RUIHMENTO_ARCHIVE_DIR`
+//! The build script links `libruihmento.a`, which `./archive` at the repository's root leaves in
+//! `target/staticlib` there. The environment variable `RUIHMENTO_ARCHIVE_DIR`
 //! names another folder, as an absolute path. The archive is for x86-64.
 #![deny(unsafe_code)]
 #![warn(missing_docs)]
