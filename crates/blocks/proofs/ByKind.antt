@@ -2,10 +2,9 @@
 use Prim.Native.Nat.{ℕ, zero, suc}
 use mathlib.Core.Path.{◌≡◌, refl}
 use mathlib.Core.Bool.{true, false}
-use mathlib.Core.Logic.{◌⊎◌, inl, inr}
 use mathlib.Core.List.{List, [], ◌∷◌, map, zip_with}
 use denote.Enum.Declared.{tag_of}
-use types.Run.{OneOf, hit, miss}
+use types.Run.{OneOf, miss}
 use native.Mathlib.Omega.{arith}
 use lib.ListN.{length, drop, replicate}
 use Rattle.meaning.specs.contracts.Kind as its_kinds
@@ -22,24 +21,6 @@ use Rattle.meaning.specs.Memory.{Mask, Value, size, whole, lane_of, bytes_of, lo
 use Rattle.meaning.specs.Running.{word_unary, word_binary, float_unary, float_binary, unary_of, binary_of}
 use Rattle.laws.proofs.Arms.{int_or_float, int_or_bool}
 use Rattle.blocks.specs.Chunks.{held_as, lane_stored}
-
--- ---- the tags that an arm takes, by what the arm says of what it took
-pub arm_int_bool : (k : Kind) → (k ≡ int) ⊎ (k ≡ bool) → OneOf (0 ∷ 1 ∷ []) (tag_of its_kinds.the_type k)
-arm_int_bool k (inl e) = rw e (hit (0 ∷ 1 ∷ []) 0 tt)
-arm_int_bool k (inr e) = rw e (hit (0 ∷ 1 ∷ []) 1 tt)
-
-pub arm_int_float : (k : Kind) → (k ≡ int) ⊎ (k ≡ float) → OneOf (0 ∷ 2 ∷ []) (tag_of its_kinds.the_type k)
-arm_int_float k (inl e) = rw e (hit (0 ∷ 2 ∷ []) 0 tt)
-arm_int_float k (inr e) = rw e (hit (0 ∷ 2 ∷ []) 2 tt)
-
-pub arm_or_xor_and : (o : Binary) → (o ≡ or) ⊎ ((o ≡ xor) ⊎ (o ≡ and)) → OneOf (0 ∷ 1 ∷ 2 ∷ []) (tag_of its_operators.the_type o)
-arm_or_xor_and o (inl e) = rw e (hit (0 ∷ 1 ∷ 2 ∷ []) 0 tt)
-arm_or_xor_and o (inr (inl e)) = rw e (hit (0 ∷ 1 ∷ 2 ∷ []) 1 tt)
-arm_or_xor_and o (inr (inr e)) = rw e (hit (0 ∷ 1 ∷ 2 ∷ []) 2 tt)
-
-pub arm_inv_not : (o : Unary) → (o ≡ inv) ⊎ (o ≡ unary_not) → OneOf (1 ∷ 2 ∷ []) (tag_of its_signs.the_type o)
-arm_inv_not o (inl e) = rw e (hit (1 ∷ 2 ∷ []) 1 tt)
-arm_inv_not o (inr e) = rw e (hit (1 ∷ 2 ∷ []) 2 tt)
 
 -- ---- ints and bools
 module _ (k : Kind) (arm : OneOf (0 ∷ 1 ∷ []) (tag_of its_kinds.the_type k)) where

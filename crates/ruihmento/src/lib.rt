@@ -79,8 +79,7 @@ fn tell_refusal(answer: &mut [u8], judged: Stage)
 }
 
 // The verdict of a text.
-#[unsafe(no_mangle)]
-pub extern "C" fn ruihmento_judge(text: &[u8], answer: &mut [u8]) -> u32
+pub fn ruihmento_judge(text: &[u8], answer: &mut [u8]) -> u32
     ensures { Kept (judge_call text.now answer.old) result answer.new tt }
 {
     if answer.len() < ANSWER {
@@ -118,8 +117,7 @@ fn judge_in(text: &[u8], tree: &mut [u32], code: &mut [u32], answer: &mut [u8])
 }
 
 // Where the variables of a text lie.
-#[unsafe(no_mangle)]
-pub extern "C" fn ruihmento_variables(text: &[u8], records: &mut [u8], answer: &mut [u8]) -> u32
+pub fn ruihmento_variables(text: &[u8], records: &mut [u8], answer: &mut [u8]) -> u32
     ensures { Kept (variables_call text.now records.old answer.old) result answer.new records.new }
 {
     if answer.len() < ANSWER {
@@ -160,13 +158,7 @@ fn list_in(text: &[u8], records: &mut [u8], tree: &mut [u32], code: &mut [u32], 
 }
 
 // Runs a text over a lent memory.
-#[unsafe(no_mangle)]
-pub extern "C" fn ruihmento_run(
-    text: &[u8],
-    memory: &mut [u8],
-    budget: u32,
-    answer: &mut [u8],
-) -> u32
+pub fn ruihmento_run(text: &[u8], memory: &mut [u8], budget: u32, answer: &mut [u8]) -> u32
     ensures { Kept (run_call text.now memory.old budget answer.old) result answer.new memory.new }
 {
     if answer.len() < ANSWER {
@@ -187,8 +179,7 @@ pub extern "C" fn ruihmento_run(
 }
 
 // Runs a text, judged once, over each of the images that stand whole.
-#[unsafe(no_mangle)]
-pub extern "C" fn ruihmento_run_each(
+pub fn ruihmento_run_each(
     text: &[u8],
     images: &mut [u8],
     size: usize,

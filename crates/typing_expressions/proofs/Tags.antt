@@ -66,6 +66,10 @@ back add = refl
 back sub = refl
 back mul = refl
 
+-- Does an operator take two of a kind?
+abbrev pub takes : Kind → Binary → Bool
+takes k o = k one_of (table o).1
+
 -- An arm of a match has the numbers of a list: what f is of each of them it is of the operator that the arm is for.
 module _ (f : Binary → Bool) (b : Bool) where
   among : (l : List ℕ) → map (λ k. f (get_or operators k or)) l ≡ replicate (length l) b → (n : ℕ) → OneOf l n → b ≡ f (get_or operators n or)

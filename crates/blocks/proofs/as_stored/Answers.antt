@@ -1,10 +1,11 @@
 -- `blocks::as_stored` meets its contract. Assumes nothing.
+use borrow.Enum.Refused.{opened}
 use Rattle.blocks.specs.Chunks.{lane_stored}
-use Rattle.blocks.proofs.ByKind.{arm_int_bool, stored_same}
+use Rattle.blocks.proofs.ByKind.{stored_same}
 use Rattle.blocks.proofs.as_stored.Goals as goal
 
 pub returns-in-Int : goal.returns-in-Int
-returns-in-Int c = let a = c.args in stored_same a.kind (arm_int_bool a.kind c.in-Int.is) a.x
+returns-in-Int c = let a = c.args in stored_same a.kind (search opened) a.x
 
 pub returns-in-Float : goal.returns-in-Float
 unfolding lane_stored

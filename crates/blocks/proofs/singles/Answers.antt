@@ -1,9 +1,10 @@
 -- `blocks::singles` meets its contract. Assumes nothing.
+use borrow.Enum.Refused.{opened}
 use mathlib.Core.Path.{◌∙◌}
 use Rattle.meaning.specs.Running.{float_binary}
 use Rattle.operators.specs.Operators.{adds, subtracts, multiplies}
 use Rattle.floats.specs.Comparisons.{equal, unequal, below, above, at_most, at_least}
-use Rattle.blocks.proofs.ByKind.{arm_or_xor_and, no_binary, zip_zeros}
+use Rattle.blocks.proofs.ByKind.{no_binary, zip_zeros}
 use borrow.Author.Rules.{rules}
 use Rattle.blocks.proofs.singles.Goals as goal
 
@@ -36,4 +37,4 @@ orders-requires-in-Ge c = rw c.in-Ge.is at_least
 
 pub returns-in-Or : goal.returns-in-Or
 returns-in-Or c = let a = c.args in
-    c.all.ensures ∙ zip_zeros (float_binary a.operator) (no_binary a.operator (arm_or_xor_and a.operator c.in-Or.is)) 16 a.x a.y (search rules) (search rules)
+    c.all.ensures ∙ zip_zeros (float_binary a.operator) (no_binary a.operator (search opened)) 16 a.x a.y (search rules) (search rules)

@@ -1,17 +1,9 @@
 -- `operators::sum` meets its contract. Assumes nothing.
-use Rattle.std.proofs.Common.{◌≡◌, ◌≢◌, refl, rules}
-use Rattle.meaning.specs.declared.Binary.{Binary}
-use Rattle.meaning.specs.declared.Binary.TheVariants.{Add as add, Sub as sub, Mul as mul}
+use Rattle.std.proofs.Common.{rules}
 use Rattle.meaning.specs.Running.{word_binary, word}
-use Rattle.operators.specs.Operators.{Sum, adds, subtracts, multiplies}
+use Rattle.operators.proofs.Last.{last_sum}
 use Rattle.operators.proofs.Words.{difference}
 use Rattle.operators.proofs.sum.Goals as goal
-
--- The last arm is for `*`.
-rest : {o : Binary} → Sum o → (o ≢ add) → (o ≢ sub) → o ≡ mul
-rest adds h _ = absurd (h refl)
-rest subtracts _ h = absurd (h refl)
-rest multiplies _ _ = refl
 
 pub returns-in-Add : goal.returns-in-Add
 unfolding word_binary word
@@ -23,4 +15,4 @@ returns-in-Sub c = rw c.in-Sub.is (difference _ _ _ (search rules) (search rules
 
 pub returns-in_default : goal.returns-in_default
 unfolding word_binary
-returns-in_default c = rw (rest c.requires c.in_default.not-Add c.in_default.not-Sub) c.times.ensures
+returns-in_default c = rw (last_sum c.requires c.in_default.not-Add c.in_default.not-Sub) c.times.ensures

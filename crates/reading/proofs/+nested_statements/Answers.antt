@@ -61,17 +61,15 @@ pub while_loop-returns-in_default : goal.while_loop-returns-in_default
 while_loop-returns-in_default t c = answers.hands_up c.condition-test.ensures c.in_default.is (λ ts h said. law.while_test_refused _ (seen h (search rules)) (search) said)
 
 pub while_loop-opening-body-requires : goal.while_loop-opening-body-requires
-while_loop-opening-body-requires t c = let pre = c.requires in
-    let m = c.condition-test.ensures.moved _ _ c.in-Done.is in
-    (omega arith, branches.branch_ready _ pre.ready_to_read c.condition-test.ensures c.in-Done.is c.condition-test.auto.tree)
+while_loop-opening-body-requires t c = let m = c.condition-test.ensures.moved _ _ c.in-Done.is in
+    (omega arith, branches.branch_ready _ c.requires.ready_to_read c.condition-test.ensures c.in-Done.is c.condition-test.auto.tree)
 
 pub while_loop-returns-in_default-body : goal.while_loop-returns-in_default-body
 while_loop-returns-in_default-body t c = let pre = c.requires in
     branches.body_refused _ pre.ready_to_read c.condition-test.ensures c.in-Done.is c.condition-test.auto.tree c.opening-body.ensures pre.at_value c.in_default-body.is
 
 pub while_loop-put_long_head-requires : goal.while_loop-put_long_head-requires
-while_loop-put_long_head-requires t c = let pre = c.requires in
-    branches.while_fits _ pre.ready_to_read c.condition-test.ensures c.in-Done.is c.condition-test.auto.tree c.opening-body.ensures c.in-Done-body.is c.opening-body.auto.tree
+while_loop-put_long_head-requires t c = branches.while_fits _ c.requires.ready_to_read c.condition-test.ensures c.in-Done.is c.condition-test.auto.tree c.opening-body.ensures c.in-Done-body.is c.opening-body.auto.tree
 
 pub while_loop-returns : goal.while_loop-returns
 while_loop-returns t c = let pre = c.requires in
@@ -87,20 +85,18 @@ pub if_else-returns-in_default : goal.if_else-returns-in_default
 if_else-returns-in_default t c = answers.hands_up c.condition-test.ensures c.in_default.is (λ ts h said. law.if_test_refused _ (seen h (search rules)) (search) said)
 
 pub if_else-opening-first-requires : goal.if_else-opening-first-requires
-if_else-opening-first-requires t c = let pre = c.requires in
-    let m = c.condition-test.ensures.moved _ _ c.in-Done.is in
-    (omega arith, branches.branch_ready _ pre.ready_to_read c.condition-test.ensures c.in-Done.is c.condition-test.auto.tree)
+if_else-opening-first-requires t c = let m = c.condition-test.ensures.moved _ _ c.in-Done.is in
+    (omega arith, branches.branch_ready _ c.requires.ready_to_read c.condition-test.ensures c.in-Done.is c.condition-test.auto.tree)
 
 pub if_else-returns-in_default-first : goal.if_else-returns-in_default-first
 if_else-returns-in_default-first t c = let pre = c.requires in
     branches.first_refused _ pre.ready_to_read c.condition-test.ensures c.in-Done.is c.condition-test.auto.tree c.opening-first.ensures pre.at_value c.in_default-first.is
 
 pub if_else-otherwise-second-requires : goal.if_else-otherwise-second-requires
-if_else-otherwise-second-requires t c = let pre = c.requires in
-    let m = c.condition-test.ensures.moved _ _ c.in-Done.is in
+if_else-otherwise-second-requires t c = let m = c.condition-test.ensures.moved _ _ c.in-Done.is in
     let b = c.opening-first.ensures.moved _ _ c.in-Done-first.is in (
       omega (arith, c.requires),
-      branches.second_ready _ pre.ready_to_read c.condition-test.ensures c.in-Done.is c.condition-test.auto.tree c.opening-first.ensures c.in-Done-first.is c.opening-first.auto.tree,
+      branches.second_ready _ c.requires.ready_to_read c.condition-test.ensures c.in-Done.is c.condition-test.auto.tree c.opening-first.ensures c.in-Done-first.is c.opening-first.auto.tree,
     )
 
 pub if_else-returns-in_default-second : goal.if_else-returns-in_default-second

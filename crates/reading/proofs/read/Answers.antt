@@ -7,8 +7,7 @@ pub statements-all-requires : goal.statements-all-requires
 statements-all-requires c = law.ready_first (search)
 
 pub returns-in_default : goal.returns-in_default
-returns-in_default c = let all = c.statements-all.ensures in
-    law.tells_refused c.in_default.is (λ ts h. law.read_refused ts (all.refused _ _ c.in_default.is ts h))
+returns-in_default c = law.tells_refused c.in_default.is (λ ts h. law.read_refused ts (c.statements-all.ensures.refused _ _ c.in_default.is ts h))
 
 pub expect-requires : goal.expect-requires
 expect-requires c = let m = c.statements-all.ensures.moved _ _ c.in-Done.is in omega (arith, c.requires.text)

@@ -60,13 +60,11 @@ operand-returns-then-kind-eq-OPEN t c = let is = sym c.kind-kind.ensures ∙ c.i
 
 pub operand-leaf-requires : goal.operand-leaf-requires
 unfolding the numbered reserved signs words marks
-operand-leaf-requires t c = let kind = c.kind-kind.ensures in
-    record { ready_to_read = search rules; at_value = ((cc), λ is. c.if-kind-eq-OPEN.false (kind ∙ is)) }
+operand-leaf-requires t c = record { ready_to_read = search rules; at_value = ((cc), λ is. c.if-kind-eq-OPEN.false (c.kind-kind.ensures ∙ is)) }
 
 pub operand-returns : goal.operand-returns
 unfolding the numbered reserved signs words marks
-operand-returns t c = let kind = c.kind-kind.ensures in
-    answers.shows_alike c.leaf.ensures (omega arith) (λ ts h. law.read_leaf _ (law.seen h (search rules)) (cc) (λ is. c.if-kind-eq-OPEN.false (kind ∙ is)))
+operand-returns t c = answers.shows_alike c.leaf.ensures (omega arith) (λ ts h. law.read_leaf _ (law.seen h (search rules)) (cc) (λ is. c.if-kind-eq-OPEN.false (c.kind-kind.ensures ∙ is)))
 
 -- A level: its first operand, and then a turn for each operator.
 pub binary-returns-in_default : goal.binary-returns-in_default

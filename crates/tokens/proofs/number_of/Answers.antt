@@ -14,8 +14,7 @@ pub loop-i-init : goal.loop-i-init
 loop-i-init c = (omega arith, refl, omega arith)
 
 pub with_digit-more-requires : goal.with_digit-more-requires
-with_digit-more-requires c = let s = c.args.s.now in
-    (run_passes digit s c.loop-i.i (omega arith), c.loop-i.invariant.0)
+with_digit-more-requires c = (run_passes digit c.args.s.now c.loop-i.i (omega arith), c.loop-i.invariant.0)
 
 pub returns-then-more-gt-NUMBER : goal.returns-then-more-gt-NUMBER
 returns-then-more-gt-NUMBER c at = let more = decimal_on _ _ _ c.loop-i.invariant.1 c.loop-i-test.true in

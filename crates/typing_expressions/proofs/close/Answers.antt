@@ -17,4 +17,4 @@ pub shape_of-table : goal.shape_of-table
 shape_of-table c = c.loop-i.invariant.0.as_long
 
 pub returns : goal.returns
-returns c = let i = c.loop-i.invariant in let e : c.loop-i.i ≡ c.args.count = omega arith in shut_all (rw e at i.0)
+returns c = let e : c.loop-i.i ≡ c.args.count = omega arith in shut_all (rw e at c.loop-i.invariant.0)

@@ -28,4 +28,4 @@ pub shape_of-records : goal.shape_of-records
 shape_of-records c = listing_length _ _ _ _ c.loop-i.invariant.0
 
 pub returns : goal.returns
-returns c = let i = c.loop-i.i in let e : c.args.count ≡ i = omega (arith, c.loop-i.invariant.1, c.loop-i-test.false) in rw e (all_listed _ _ _ _ c.loop-i.invariant.0)
+returns c = let e : c.args.count ≡ c.loop-i.i = omega (arith, c.loop-i.invariant.1, c.loop-i-test.false) in rw e (all_listed _ _ _ _ c.loop-i.invariant.0)
