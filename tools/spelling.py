@@ -117,38 +117,47 @@ def lemma(name, names):
     return text
 
 
-def main(commit):
-    texts = {path: open(path, encoding="utf-8").read() for path in sources()}
-    for path, apart in APART.items():
-        for old, new in apart.items():
-            texts[path] = re.sub(rf"(?<![\w.-]){old}(?![\w-])", new, texts[path])
-            texts[path] = re.sub(rf"(use (?!Rattle)[^\n]*[{{ ]){new}(?=[,}}])", rf"\1{old} as {new}", texts[path])
-    crates = {path.split("/")[1] for path in texts}
-    kit = kit_names(texts, crates)
-    specs = defined(texts)
-    names = {name.replace("-", "_") for name in specs if name[0].islower()} | WORDS
+def apart(texts):
+    """Gives a name of the kit another name where one of the repository now has it."""
+    for path, names in APART.items():
+        for old, new in names.items():
+            text = re.sub(rf"(?<![\w.-]){old}(?![\w-])", new, texts[path])
+            texts[path] = re.sub(rf"(use (?!Rattle)[^\n]*[{{ ]){new}(?=[,}}])", rf"\1{old} as {new}", text)
+
+
+def places_of(texts):
+    """Each word of the code, with the files that have it."""
     tokens = {}
     for path, text in texts.items():
         for is_code, piece in parts(text, mark_of(path)):
             if is_code:
                 for token in TOKEN.findall(piece):
                     tokens.setdefault(token, set()).add(path)
-    turn = {}
-    for token in tokens:
-        if token in BY_HAND:
-            turn[token] = BY_HAND[token]
-        elif token in RULES:
-            turn[token] = RULES[token]
-        elif re.fullmatch(r"[TER]-[A-Z-]+", token):
-            turn[token] = token.replace("-", "_").lower()
-        elif "-" not in token.strip("-") or token in kit or not re.match(r"[^\W\d_]", token) or token.startswith("Need-"):
-            continue
-        elif token[0].isupper():
-            turn[token] = camel(token)
-        elif token in specs:
-            turn[token] = token.replace("-", "_")
-        else:
-            turn[token] = lemma(token, names)
+    return tokens
+
+
+def respelled(token, kit, specs, names):
+    """The word's new spelling, or None where it keeps the one that it has."""
+    if token in BY_HAND:
+        return BY_HAND[token]
+    if token in RULES:
+        return RULES[token]
+    if re.fullmatch(r"[TER]-[A-Z-]+", token):
+        return token.replace("-", "_").lower()
+    if "-" not in token.strip("-") or token in kit or not re.match(r"[^\W\d_]", token) or token.startswith("Need-"):
+        return None
+    if token[0].isupper():
+        return camel(token)
+    return token.replace("-", "_") if token in specs else lemma(token, names)
+
+
+def renamings(texts):
+    """Old and new spelling of each word that changes; says where a new one stands already."""
+    kit = kit_names(texts, {path.split("/")[1] for path in texts})
+    specs = defined(texts)
+    names = {name.replace("-", "_") for name in specs if name[0].islower()} | WORDS
+    tokens = places_of(texts)
+    turn = {token: new for token in tokens if (new := respelled(token, kit, specs, names))}
     back = {}
     for old, new in sorted(turn.items()):
         if new != old and new in tokens and tokens[new] & tokens[old]:
@@ -156,43 +165,54 @@ def main(commit):
         if new in back:
             print(f"look: {old} and {back[new]} -> {new}")
         back[new] = old
-    for path, text in texts.items():
+    return turn
+
+
+def speller(path, text, turn):
+    """What a word of a file's code becomes."""
+    is_proof = path.endswith(".antt")
+    has_not = is_proof and "Not as not" in text
+
+    def spell(match):
+        token = match.group()
+        if is_proof and token in CHOICE:
+            return CHOICE[token]
+        if has_not and token == "not" and match.string[: match.start()][-1:] != ".":
+            return "unary_not"
         # A rule's name is one in the crate of the rules alone: elsewhere it is a constant of the code.
-        mark = mark_of(path)
-        landed = landed_text(commit, path)
-        old = [piece for is_code, piece in parts(landed, mark) if not is_code] if landed is not None else []
-        pieces = parts(text, mark)
-        now = [piece for is_code, piece in pieces if not is_code]
-        if len(old) != len(now):
-            print(f"look: {path}: {len(old)} comments and texts, now {len(now)}")
-            old = now
-        is_proof = path.endswith(".antt")
-        has_not = is_proof and "Not as not" in text
+        if token in RULES and not path.startswith("crates/rules/"):
+            return token
+        return turn.get(token, token)
 
-        def spell(match):
-            token = match.group()
-            if is_proof and token in CHOICE:
-                return CHOICE[token]
-            if has_not and token == "not" and match.string[: match.start()][-1:] != ".":
-                return "unary_not"
-            if token in RULES and not path.startswith("crates/rules/"):
-                return token
-            return turn.get(token, token)
+    return spell
 
-        # In a comment the words of the definitions' own language stay.
-        quoted = lambda match: TOKEN.sub(lambda word: turn.get(word.group(), word.group()), match.group())
-        out, at = [], 0
-        for is_code, piece in pieces:
-            if is_code:
-                out.append(TOKEN.sub(spell, piece))
-            else:
-                was = old[at]
-                if was.startswith('"') != piece.startswith('"'):
-                    print(f"look: {path}: {was[:60]} | {piece[:60]}")
-                    was = piece
-                out.append(was if was.startswith('"') else re.sub(r"`[^`]*`", quoted, was))
-                at += 1
-        new = "".join(out)
+
+def rewritten(path, text, commit, turn):
+    """The file with its words spelled anew, and with the comments and texts of the commit."""
+    mark = mark_of(path)
+    landed = landed_text(commit, path)
+    old = [piece for is_code, piece in parts(landed, mark) if not is_code] if landed is not None else []
+    pieces = parts(text, mark)
+    now = [piece for is_code, piece in pieces if not is_code]
+    if [piece[:1] == '"' for piece in old] != [piece[:1] == '"' for piece in now]:
+        print(f"look: {path}: {len(old)} comments and texts, now {len(now)}")
+        old = now
+    spell = speller(path, text, turn)
+    # In a comment the words of the definitions' own language stay.
+    quoted = lambda match: TOKEN.sub(lambda word: turn.get(word.group(), word.group()), match.group())
+    kept = iter(old)
+    return "".join(
+        TOKEN.sub(spell, piece) if is_code else was if (was := next(kept)).startswith('"') else re.sub(r"`[^`]*`", quoted, was)
+        for is_code, piece in pieces
+    )
+
+
+def main(commit):
+    texts = {path: open(path, encoding="utf-8").read() for path in sources()}
+    apart(texts)
+    turn = renamings(texts)
+    for path, text in texts.items():
+        new = rewritten(path, text, commit, turn)
         if new != text:
             open(path, "w", encoding="utf-8").write(new)
 
