@@ -1,4 +1,4 @@
--- `blocks::bools` meets its contract. Assumes nothing.
+-- What each turn of the loop of `blocks::bools` keeps, and what falls with it.
 use Prim.Native.Nat.{◌-◌, ◌+◌, ◌≤◌}
 use lib.ListN.{length, drop}
 use Rattle.meaning.specs.declared.Kind.TheVariants.{Bool as bool}

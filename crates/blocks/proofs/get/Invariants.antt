@@ -1,4 +1,4 @@
--- `blocks::get` meets its contract. Assumes nothing.
+-- What each turn of the loop of `blocks::get` keeps, and what falls with it.
 use Prim.Native.Nat.{◌-◌, ◌+◌, ◌≤◌}
 use lib.ListN.{length, take, drop}
 use Rattle.laws.proofs.Making.{Making}

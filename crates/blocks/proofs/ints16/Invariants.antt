@@ -1,4 +1,4 @@
--- `blocks::ints16` meets its contract. Assumes nothing.
+-- What each turn of the loop of `blocks::ints16` keeps, and what falls with it.
 use Prim.Native.Nat.{◌-◌, ◌+◌, ◌≤◌}
 use lib.ListN.{length, drop}
 use Rattle.meaning.specs.declared.Kind.TheVariants.{Int as int}

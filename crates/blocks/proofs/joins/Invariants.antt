@@ -1,4 +1,4 @@
--- `blocks::joins` meets its contract. Assumes nothing.
+-- What each turn of the loop of `blocks::joins` keeps, and what falls with it.
 use Prim.Native.Nat.{◌-◌}
 use Rattle.meaning.specs.Running.{word_binary}
 use Rattle.operators.specs.Operators.{Join}

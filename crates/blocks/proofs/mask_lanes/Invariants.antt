@@ -1,4 +1,4 @@
--- `blocks::mask_lanes` meets its contract. Assumes nothing.
+-- What each turn of the loop of `blocks::mask_lanes` keeps, and what falls with it.
 use Prim.Native.Nat.{◌-◌}
 use mathlib.Core.List.{map}
 use Rattle.meaning.specs.Memory.{bit}

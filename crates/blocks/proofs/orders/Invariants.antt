@@ -1,4 +1,4 @@
--- `blocks::orders` meets its contract. Assumes nothing.
+-- What each turn of the loop of `blocks::orders` keeps, and what falls with it.
 use Prim.Native.Nat.{◌-◌}
 use Rattle.meaning.specs.Running.{word_binary}
 use Rattle.operators.specs.Operators.{Order}

@@ -1,4 +1,4 @@
--- `blocks::put` meets its contract. Assumes nothing.
+-- What each turn of the loop of `blocks::put` keeps, and what falls with it.
 use Prim.Native.Nat.{◌-◌}
 use Rattle.blocks.proofs.Chunks.{Pasting}
 use Rattle.blocks.proofs.put.Given as goal

@@ -1,4 +1,4 @@
--- `blocks::store_bools` meets its contract. Assumes nothing.
+-- What each turn of the loop of `blocks::store_bools` keeps, and what falls with it.
 use Prim.Native.Nat.{◌-◌}
 use Rattle.meaning.specs.declared.Kind.TheVariants.{Bool as bool}
 use Rattle.blocks.proofs.Stores.{Storing}

@@ -1,4 +1,4 @@
--- `blocks::store_ints` meets its contract. Assumes nothing.
+-- What each turn of the loop of `blocks::store_ints` keeps, and what falls with it.
 use Prim.Native.Nat.{◌-◌}
 use Rattle.meaning.specs.declared.Kind.TheVariants.{Int as int}
 use Rattle.blocks.proofs.Stores.{Storing}

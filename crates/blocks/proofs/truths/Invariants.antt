@@ -1,4 +1,4 @@
--- `blocks::truths` meets its contract. Assumes nothing.
+-- What each turn of the loop of `blocks::truths` keeps, and what falls with it.
 use Prim.Native.Nat.{◌-◌}
 use Rattle.blocks.proofs.Masks.{Counting}
 use Rattle.blocks.proofs.truths.Given as goal

@@ -1,4 +1,4 @@
--- `blocks::word_signs` meets its contract. Assumes nothing.
+-- What each turn of the loop of `blocks::word_signs` keeps, and what falls with it.
 use Prim.Native.Nat.{◌-◌}
 use Rattle.meaning.specs.Running.{word_unary}
 use Rattle.laws.proofs.Making.{Mapping}

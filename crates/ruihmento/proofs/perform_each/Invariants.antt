@@ -1,4 +1,4 @@
--- `ruihmento::perform_each` meets its contract. The loop's invariant: the first k images are done.
+-- The invariant of the loop of `ruihmento::perform_each`: the first k images are done.
 use Prim.Native.Nat.{◌-◌}
 use mathlib.Core.Path.{◌≡◌}
 use lib.ListN.{length}

@@ -1,4 +1,4 @@
--- `ruihmento::refuse_each` meets its contract. The loop's invariant: the first answers are told. Assumes nothing.
+-- The invariant of the loop of `ruihmento::refuse_each`: the first answers are told.
 use Prim.Native.Nat.{ℕ, ◌-◌}
 use mathlib.Core.Path.{◌≡◌}
 use mathlib.Core.List.{List}

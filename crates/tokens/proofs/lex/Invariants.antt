@@ -1,4 +1,4 @@
--- `tokens::lex` meets its contract: the buffer holds the tokens so far.
+-- The invariant of the loop of `tokens::lex`: the buffer holds the tokens so far.
 use Prim.Native.Nat.{◌-◌}
 use lib.ListN.{length}
 use Rattle.tokens.proofs.SoFar.{TokensSoFar}

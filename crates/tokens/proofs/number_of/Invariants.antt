@@ -1,4 +1,4 @@
--- `tokens::number_of` meets its contract: the first i digits are worth `value`.
+-- The invariant of the loop of `tokens::number_of`: the first i digits are worth `value`.
 use mathlib.Core.Path.{◌≡◌}
 use Prim.Native.Nat.{◌≤◌, ◌-◌}
 use lib.ListN.{length, drop}

@@ -1,4 +1,4 @@
--- `tokens::run` meets its contract: the run of the whole is i and the run of what is left.
+-- The invariant of the loop of `tokens::run`: the run of the whole is i and the run of what is left.
 use mathlib.Core.Path.{◌≡◌}
 use Prim.Native.Nat.{◌≤◌, ◌-◌, ◌+◌}
 use lib.ListN.{length, drop}

@@ -1,4 +1,4 @@
--- `typing::alone`, `typing::braces`, `typing::branch`, `typing::choice`, `typing::cycle`, `typing::statement`, `typing::statements` meet their contracts. Assumes nothing.
+-- What falls from call to call where the functions that type statements call each other, and what the loop of `typing::statements` keeps.
 use Prim.Native.Nat.{◌+◌, ◌*◌, ◌-◌}
 use lib.ListN.{length}
 use Rattle.typing.proofs.Sequence.{Sequel}

@@ -1,4 +1,4 @@
--- `typing_expressions::close` meets its contract. Assumes nothing.
+-- What each turn of the loop of `typing_expressions::close` keeps, and what falls with it.
 use Prim.Native.Nat.{◌-◌, ◌≤◌}
 use Rattle.typing_expressions.proofs.Tables.{Shut}
 use Rattle.typing_expressions.proofs.close.Given as goal

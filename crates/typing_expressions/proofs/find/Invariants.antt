@@ -1,4 +1,4 @@
--- `typing_expressions::find` meets its contract. Assumes nothing.
+-- What each turn of each loop of `typing_expressions::find` keeps, and what falls with it.
 use Prim.Native.Nat.{◌+◌, ◌-◌}
 use mathlib.Core.Path.{◌≡◌}
 use mathlib.Core.Bool.{true, ◌&&◌}

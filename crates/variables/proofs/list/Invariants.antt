@@ -1,4 +1,4 @@
--- `variables::list` meets its contract. The loop's invariant: the first i records are written. Assumes nothing.
+-- The invariant of the loop of `variables::list`: the first i records are written.
 use Prim.Native.Nat.{◌-◌, ◌≤◌}
 use Rattle.variables.proofs.Laws.{Listing}
 use Rattle.variables.proofs.list.Given as goal

@@ -1,4 +1,4 @@
--- `floats::chunk::minuses` meets its contract. Assumes nothing.
+-- What each turn of the loop of `floats::chunk::minuses` keeps, and what falls with it.
 use Prim.Native.Nat.{◌-◌}
 use Rattle.meaning.specs.Floats.{negated}
 use Rattle.laws.proofs.Making.{Mapping}

@@ -1,4 +1,4 @@
--- `floats::chunk::one_nans` meets its contract. Assumes nothing.
+-- What each turn of the loop of `floats::chunk::one_nans` keeps, and what falls with it.
 use Prim.Native.Nat.{◌-◌}
 use Rattle.meaning.specs.Floats.{one_nan}
 use Rattle.laws.proofs.Making.{Mapping}

@@ -1,4 +1,4 @@
--- `floats::chunk::orders` meets its contract. Assumes nothing.
+-- What each turn of the loop of `floats::chunk::orders` keeps, and what falls with it.
 use Prim.Native.Nat.{◌-◌}
 use Rattle.meaning.specs.Running.{float_binary}
 use Rattle.floats.specs.Comparisons.{Compares}

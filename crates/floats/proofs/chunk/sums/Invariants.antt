@@ -1,4 +1,4 @@
--- `floats::chunk::sums` meets its contract. Assumes nothing.
+-- What each turn of the loop of `floats::chunk::sums` keeps, and what falls with it.
 use Prim.Native.Nat.{◌-◌}
 use Rattle.meaning.specs.Running.{float_binary}
 use Rattle.operators.specs.Operators.{Sum}

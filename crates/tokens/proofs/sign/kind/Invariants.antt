@@ -1,4 +1,4 @@
--- `tokens::sign::kind` meets its contract: a walk to the first sign that has the bytes.
+-- The invariant of the loop of `tokens::sign::kind`: a walk to the first sign that has the bytes.
 use Prim.Native.Nat.{◌-◌}
 use lib.ListN.{length}
 use Rattle.meaning.specs.Tokens.{signs}

@@ -1,4 +1,4 @@
--- `tokens::word::row_kind` meets its contract: a walk to the first row that has the letters.
+-- The invariant of the loop of `tokens::word::row_kind`: a walk to the first row that has the letters.
 use Prim.Native.Nat.{◌-◌}
 use lib.ListN.{length}
 use Rattle.meaning.specs.Tokens.{reserved}
