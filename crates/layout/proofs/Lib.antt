@@ -1,3 +1,4 @@
 pub mod KindNumbers
 pub mod Operators
 pub mod Instructions
+pub mod Handed

@@ -1,3 +1,4 @@
+pub mod Stage
 pub mod Tokens
 pub mod Sizes
 pub mod Heads

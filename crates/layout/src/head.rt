@@ -14,6 +14,7 @@ pub const LONG: usize = 6;
 pub const DECLARATION: usize = 9;
 
 // A declaration's N and its place, its name's place and end, and the place of its `=`.
+// No Option for N and the value: they are words of a lent buffer, 0 where the text has none.
 pub const LENGTH: usize = 3;
 
 pub const LENGTH_PLACE: usize = 4;

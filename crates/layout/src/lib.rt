@@ -15,19 +15,27 @@ pub mod token;
 
 ghost use Rattle.std.specs.Prelude.{◌≡◌, ◌+◌, ◌≤◌, ◌<◌, length, get_or};
 ghost use Rattle.std.proofs.lemmas.List.Edits.{sets};
-ghost use Rattle.meaning.specs.Tree.{kind_number};
 ghost use Rattle.layout.specs.Words.{unit_words, unit};
 ghost use Rattle.layout.specs.Table.{kind_of};
 
 use meaning::{Kind, Refusal};
 
-// What a stage of judging answers: how many tokens, declarations or operands that wait there are so far, and how many words were written;
-// or the refusal and its place.
+// How far a stage of judging came: how many tokens, declarations or operands that wait there are so far, and how many words were written.
 #[derive(Clone, Copy)]
-pub enum Stage {
-    Done { count: usize, size: usize },
-    Refused { refusal: Refusal, place: usize },
+pub struct Reached {
+    pub count: usize,
+    pub size: usize,
 }
+
+// Why a text is refused, and where.
+#[derive(Clone, Copy)]
+pub struct Refused {
+    pub refusal: Refusal,
+    pub place: usize,
+}
+
+// What a stage of judging answers.
+pub type Stage = Result<Reached, Refused>;
 
 // The words of a unit.
 pub const UNIT: usize = 3;
@@ -50,18 +58,8 @@ pub fn word(words: &[u32], i: usize) -> usize
     words[i] as usize
 }
 
-// The number of a kind, as tables, programs and the stack have it.
-pub fn kind_number(kind: Kind) -> u32
-    ensures { result ≡ kind_number kind }
-{
-    match kind {
-        Kind::Int => 0,
-        Kind::Bool => 1,
-        Kind::Float => 2,
-    }
-}
-
 // The kind of a number.
+// No `From<u32>`: only the numbers of kinds stand for one, and what another gives is the layout's choice (`kind_of`), not the kind's.
 pub fn kind_of(number: u32) -> Kind
     ensures { result ≡ kind_of number }
 {

@@ -1,9 +1,11 @@
 // The table of declarations in a lent buffer: a row of six words for each.
+// No const parameter for the column, here and in `slot`, `operand` and `token`: `row::address(table, i)` says which word it is, and its body
+// is one line either way.
 ghost use Rattle.std.specs.Prelude.{◌≡◌, ◌+◌, ◌*◌, ◌≤◌, length, set};
 ghost use Rattle.meaning.specs.Tree as Tree;
 ghost use Rattle.layout.specs.Table.{row_words, word_of, kind_of, place_column, end_column, kind_column, lanes_column, address_column, open_column, with_row};
 
-use crate::{kind_number, kind_of, put_unit, word};
+use crate::{kind_of, put_unit, word};
 use meaning::Kind;
 
 // The words of a row, and which of them is what: the place and the end of the name, the kind, the length, the address, and 1 while
@@ -62,7 +64,7 @@ pub fn address(table: &[u32], i: usize) -> u32
     table[i * WORDS + ADDRESS]
 }
 
-// 1 while it is open.
+// 1 while it is open. No bool: it is a word of a lent row, which `shut` and `put` write, and the clause gives the word.
 pub fn open(table: &[u32], i: usize) -> u32
     requires { i * row_words + row_words ≤ length table.now }
     ensures { result ≡ word_of table.now i open_column }
@@ -83,6 +85,6 @@ pub fn put(table: &mut [u32], i: usize, place: u32, end: u32, kind: Kind, lanes:
     requires { i * row_words + row_words ≤ length table.old }
     ensures { table.new ≡ with_row table.old i place end (Tree.kind_number kind) lanes address }
 {
-    put_unit(table, i * WORDS, place, end, kind_number(kind));
+    put_unit(table, i * WORDS, place, end, u32::from(kind));
     put_unit(table, i * WORDS + LANES, lanes, address, 1);
 }

@@ -4,7 +4,7 @@ ghost use Rattle.meaning.specs.Tree as Tree;
 ghost use Rattle.layout.specs.Table.{kind_of};
 ghost use Rattle.layout.specs.Stack.{slot_words, slot_kind, slot_lanes, slot_word, with_slot};
 
-use crate::{kind_number, kind_of, put_unit};
+use crate::{kind_of, put_unit};
 use meaning::Kind;
 
 // The words of an operand: its kind, its length, and the word that stands for it in the code (a constant's lane, a variable's number,
@@ -44,5 +44,5 @@ pub fn put(stack: &mut [u32], i: usize, kind: Kind, lanes: u32, word: u32)
     requires { i * slot_words + slot_words ≤ length stack.old }
     ensures { stack.new ≡ with_slot stack.old i (Tree.kind_number kind) lanes word }
 {
-    put_unit(stack, i * WORDS, kind_number(kind), lanes, word);
+    put_unit(stack, i * WORDS, u32::from(kind), lanes, word);
 }

@@ -1,4 +1,5 @@
 // The tags of trees and programs: the numbers of tokens, so that there is no second table.
+// No enum: a tag is a word of a lent buffer, and meaning's Tokens numbers it.
 ghost use Rattle.std.specs.Prelude.{◌≡◌};
 ghost use Rattle.layout.specs.Words.{sign_of, operator_of};
 
@@ -49,6 +50,7 @@ pub const STEP: u32 = token::SEMICOLON;
 pub const PUT: u32 = token::BECOMES;
 
 // The unary operator of a tag.
+// No `From<u32>`: only a tag stands for an operator, and what another number gives is the layout's choice (`sign_of`), not the operator's.
 pub fn unary_of(tag: u32) -> Unary
     ensures { result ≡ sign_of tag }
 {
@@ -64,6 +66,7 @@ const NEG: u32 = UNARY + token::MINUS;
 const INV: u32 = UNARY + token::INVERSE;
 
 // The binary operator of a tag.
+// No `From<u32>`, as above (`operator_of`).
 pub fn binary_of(tag: u32) -> Binary
     ensures { result ≡ operator_of tag }
 {

@@ -11,6 +11,7 @@ pub const PLACE: usize = 1;
 pub const VALUE: usize = 2;
 
 // What a token is.
+// No enum: a token stands as words in a lent buffer, in which its tag and its program's come after it, and meaning's Tokens numbers them.
 pub const END: u32 = 0;
 
 pub const NUMBER: u32 = 1;

@@ -14,22 +14,6 @@ rest with_and _ _ h _ = absurd (h refl)
 rest equal _ _ _ h = absurd (h refl)
 rest unequal _ _ _ _ = refl
 
-pub returns-in-Or : goal.returns-in-Or
-unfolding word_binary
-returns-in-Or c = rw c.in-Or.is
-
-pub returns-in-Xor : goal.returns-in-Xor
-unfolding word_binary
-returns-in-Xor c = rw c.in-Xor.is
-
-pub returns-in-And : goal.returns-in-And
-unfolding word_binary
-returns-in-And c = rw c.in-And.is
-
-pub returns-in-Eq : goal.returns-in-Eq
-unfolding word_binary
-returns-in-Eq c = rw c.in-Eq.is c.bit.ensures
-
 pub returns-in_default : goal.returns-in_default
 unfolding word_binary
 returns-in_default c = rw (rest c.requires c.in_default.not-Or c.in_default.not-Xor c.in_default.not-And c.in_default.not-Eq) c.bit-in_default.ensures

@@ -13,18 +13,6 @@ rest above _ h _ = absurd (h refl)
 rest at_most _ _ h = absurd (h refl)
 rest at_least _ _ _ = refl
 
-pub returns-in-Lt : goal.returns-in-Lt
-unfolding word_binary
-returns-in-Lt c = rw (c.in-Lt.is, c.bit.ensures, c.below.ensures)
-
-pub returns-in-Gt : goal.returns-in-Gt
-unfolding word_binary
-returns-in-Gt c = rw (c.in-Gt.is, c.bit-in-Gt.ensures, c.below-in-Gt.ensures)
-
-pub returns-in-Le : goal.returns-in-Le
-unfolding word_binary
-returns-in-Le c = rw (c.in-Le.is, c.bit-in-Le.ensures, c.below-in-Le.ensures)
-
 pub returns-in_default : goal.returns-in_default
 unfolding word_binary
 returns-in_default c = rw (rest c.requires c.in_default.not-Lt c.in_default.not-Gt c.in_default.not-Le, c.bit-in_default.ensures, c.below-in_default.ensures)

@@ -2,4 +2,4 @@
 use Rattle.layout.proofs.row.put.Goals as goal
 
 pub returns : goal.returns
-returns c = rw (c.put_unit-2.ensures, c.put_unit.ensures, c.kind_number.ensures)
+returns c = rw (c.put_unit-2.ensures, c.put_unit.ensures, c.from.ensures)

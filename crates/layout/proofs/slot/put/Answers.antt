@@ -2,4 +2,4 @@
 use Rattle.layout.proofs.slot.put.Goals as goal
 
 pub returns : goal.returns
-returns c = rw (c.put_unit.ensures, c.kind_number.ensures)
+returns c = rw (c.put_unit.ensures, c.from.ensures)
