@@ -1,5 +1,5 @@
 -- A variable's bytes: the lanes that are loaded from them, and their whole size.
-use Prim.Native.Nat.{ℕ, zero, suc, ◌+◌, ◌*◌, ◌-◌, ◌<◌, ◌≤◌}
+use Prim.Native.Nat.{ℕ, zero, suc, ◌+◌, ◌*◌, ◌-◌, ◌^◌, ◌<◌, ◌≤◌}
 use mathlib.Core.Path.{◌≡◌, refl, sym, ap, ◌∙◌}
 use mathlib.Core.Bool.{not}
 use mathlib.Core.List.{List}
@@ -9,8 +9,9 @@ use lib.Dec.{eqb}
 use lib.ListN.{length, get_or, take, drop, length-drop}
 use lib.Seq.{drop-drop, get_or-drop}
 use Rattle.meaning.specs.declared.Kind.{Kind}
-use Rattle.meaning.specs.declared.Kind.TheVariants.{Int as int, Bool as bool}
+use Rattle.meaning.specs.declared.Kind.TheVariants.{Int as int, Bool as bool, Float as float}
 use Rattle.meaning.specs.Memory.{size, bit, lane_of, load, whole}
+use Rattle.layout.specs.Instructions.{mask_bits}
 use Rattle.operators.proofs.Bytes.{bool_lane}
 use Rattle.blocks.specs.Chunks.{padded}
 
@@ -28,6 +29,12 @@ load_at k (suc n) l (suc i) h =
     load_at k n (drop (size k) l) i (omega arith) ∙ rw (drop-drop (i * size k) (size k) l, e)
 
 -- The whole size of n lanes.
+pub whole_small : (k : Kind) (n : ℕ) → n ≤ mask_bits → n * size k < 2 ^ 64
+unfolding size
+whole_small int n h = omega arith
+whole_small bool n h = omega arith
+whole_small float n h = omega arith
+
 pub whole_int : (n : ℕ) → whole int n ≡ n * 4
 unfolding whole size
 whole_int n = refl

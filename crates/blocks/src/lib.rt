@@ -14,33 +14,27 @@ ghost use Rattle.blocks.specs.Chunks.{placed, padded, in_chunk, four_ints, held_
 use floats::chunk;
 use meaning::{Binary, Kind, Unary};
 use operators::{INT, bit, int_of, put_int};
+use std::array;
 
 // The lanes of a chunk.
 const CHUNK: usize = layout::instruction::CHUNK;
 
 // The bytes of n lanes of a kind.
+// No one function with `typing_expressions::whole`, which counts in 32 bits: each is one product of `Kind::size`.
 pub fn whole(kind: Kind, n: usize) -> usize
     requires { n ≤ mask_bits }
     ensures { result ≡ whole kind n }
 {
-    match kind {
-        Kind::Int | Kind::Float => n * INT,
-        Kind::Bool => n,
-    }
+    n * kind.size()
 }
 
 // `+`, `-` or `*`, lane by lane.
+// No one function over a closure for this and the next two: `from_fn` is one, and each asks for operators of its own group.
 fn sums(operator: Binary, x: [u32; 16], y: [u32; 16]) -> [u32; 16]
     requires { Sum operator }
     ensures { result ≡ zip_with (word_binary operator) x y }
 {
-    let mut r = [0u32; 16];
-    let mut i = 0usize;
-    while i < 16 {
-        r[i] = operators::sum(operator, x[i], y[i]);
-        i += 1;
-    }
-    r
+    array::from_fn(|i| operators::sum(operator, x[i], y[i]))
 }
 
 // `<`, `>`, `<=` or `>=`, lane by lane.
@@ -48,13 +42,7 @@ fn orders(operator: Binary, x: [u32; 16], y: [u32; 16]) -> [u32; 16]
     requires { Order operator }
     ensures { result ≡ zip_with (word_binary operator) x y }
 {
-    let mut r = [0u32; 16];
-    let mut i = 0usize;
-    while i < 16 {
-        r[i] = operators::order(operator, x[i], y[i]);
-        i += 1;
-    }
-    r
+    array::from_fn(|i| operators::order(operator, x[i], y[i]))
 }
 
 // `|`, `^`, `&`, `==` or `!=`, lane by lane.
@@ -62,19 +50,14 @@ fn joins(operator: Binary, x: [u32; 16], y: [u32; 16]) -> [u32; 16]
     requires { Join operator }
     ensures { result ≡ zip_with (word_binary operator) x y }
 {
-    let mut r = [0u32; 16];
-    let mut i = 0usize;
-    while i < 16 {
-        r[i] = operators::join(operator, x[i], y[i]);
-        i += 1;
-    }
-    r
+    array::from_fn(|i| operators::join(operator, x[i], y[i]))
 }
 
 // A binary operator between two chunks of words, lane by lane.
 fn words(operator: Binary, x: [u32; 16], y: [u32; 16]) -> [u32; 16]
     ensures { result ≡ zip_with (word_binary operator) x y }
 {
+    // No `|` between the arms: comparisons that share one are compiled to more moves and jumps, and each operator's own loop does without.
     match operator {
         Binary::Add => sums(operator, x, y),
         Binary::Sub => sums(operator, x, y),
@@ -87,10 +70,11 @@ fn words(operator: Binary, x: [u32; 16], y: [u32; 16]) -> [u32; 16]
     }
 }
 
-// The same between two chunks of singles. Each operator has an arm of its own, so that the loop over its lanes is made for it alone.
+// The same between two chunks of singles.
 fn singles(operator: Binary, x: [u32; 16], y: [u32; 16]) -> [u32; 16]
     ensures { result ≡ zip_with (float_binary operator) x y }
 {
+    // No `|` between the arms with a loop: each operator has one of its own, so that the loop over its lanes is made for it alone.
     match operator {
         Binary::Or | Binary::Xor | Binary::And => all(0),
         Binary::Add => chunk::sums(operator, x, y),
@@ -119,13 +103,7 @@ pub fn operate(kind: Kind, operator: Binary, x: [u32; 16], y: [u32; 16]) -> [u32
 fn word_signs(operator: Unary, x: [u32; 16]) -> [u32; 16]
     ensures { result ≡ map (word_unary operator) x }
 {
-    let mut r = [0u32; 16];
-    let mut i = 0usize;
-    while i < 16 {
-        r[i] = operators::sign(operator, x[i]);
-        i += 1;
-    }
-    r
+    array::from_fn(|i| operators::sign(operator, x[i]))
 }
 
 // The same of a chunk of singles.
@@ -160,43 +138,32 @@ pub fn ints16(memory: &[u8], at: usize) -> [u32; 16]
     requires { at + whole int chunk_lanes ≤ length memory.now }
     ensures { result ≡ loaded int chunk_lanes (drop at memory.now) }
 {
-    let mut r = [0u32; 16];
-    let mut i = 0usize;
-    while i < 16 {
-        let from = at + i * INT;
-        let to = from + INT;
-        r[i] = int_of(&memory[from..to]);
-        i += 1;
-    }
-    r
+    ints(memory, at, CHUNK)
 }
 
 // n ints, or patterns of floats, from the bytes at an address, and zeros.
+#[tactic(auto, unfolding(meaning::specs::Memory::whole, meaning::specs::Memory::size))]
 fn ints(memory: &[u8], at: usize, n: usize) -> [u32; 16]
     requires { (n ≤ chunk_lanes) × (at + whole int n ≤ length memory.now) }
     ensures { result ≡ padded (loaded int n (drop at memory.now)) }
 {
     let mut r = [0u32; 16];
-    let mut i = 0usize;
-    while i < n {
+    for i in 0..n {
         let from = at + i * INT;
-        let to = from + INT;
-        r[i] = int_of(&memory[from..to]);
-        i += 1;
+        r[i] = int_of(&memory[from..from + INT]);
     }
     r
 }
 
 // n bools from the bytes at an address, and zeros.
+#[tactic(auto, unfolding(meaning::specs::Memory::whole, meaning::specs::Memory::size))]
 fn bools(memory: &[u8], at: usize, n: usize) -> [u32; 16]
     requires { (n ≤ chunk_lanes) × (at + whole bool n ≤ length memory.now) }
     ensures { result ≡ padded (loaded bool n (drop at memory.now)) }
 {
     let mut r = [0u32; 16];
-    let mut i = 0usize;
-    while i < n {
+    for i in 0..n {
         r[i] = bit(memory[at + i] != 0);
-        i += 1;
     }
     r
 }
@@ -220,13 +187,7 @@ pub fn load(kind: Kind, memory: &[u8], at: usize, n: usize) -> [u32; 16]
 pub fn mask_lanes(mask: u64) -> [u32; 16]
     ensures { result ≡ map lane_bit (bits chunk_lanes mask) }
 {
-    let mut r = [0u32; 16];
-    let mut i = 0usize;
-    while i < 16 {
-        r[i] = bit((mask >> i) & 1 == 1);
-        i += 1;
-    }
-    r
+    array::from_fn(|i| bit((mask >> i) & 1 == 1))
 }
 
 // The lanes of the register at a word.
@@ -234,13 +195,7 @@ pub fn get(registers: &[u32], at: usize) -> [u32; 16]
     requires { at + chunk_lanes ≤ length registers.now }
     ensures { result ≡ take chunk_lanes (drop at registers.now) }
 {
-    let mut r = [0u32; 16];
-    let mut i = 0usize;
-    while i < 16 {
-        r[i] = registers[at + i];
-        i += 1;
-    }
-    r
+    array::from_fn(|i| registers[at + i])
 }
 
 // Lanes into the register at a word.
@@ -248,10 +203,9 @@ pub fn put(registers: &mut [u32], at: usize, x: [u32; 16])
     requires { at + chunk_lanes ≤ length registers.old }
     ensures { registers.new ≡ placed registers.old at chunk_lanes x }
 {
-    let mut i = 0usize;
-    while i < 16 {
+    // No `copy_from_slice`: the lanes would go through memory on the way, and here they stay in the machine's registers.
+    for i in 0..CHUNK {
         registers[at + i] = x[i];
-        i += 1;
     }
 }
 
@@ -266,6 +220,7 @@ fn put_if(bytes: &mut [u8], active: bool, x: u32)
 }
 
 // Four lanes, each where it is active.
+// No loop, here and below: one over four lanes and their bytes is as long as the four lines.
 fn some_of_four(bytes: &mut [u8], mask: u64, a: u32, b: u32, c: u32, d: u32)
     requires { length bytes.old ≡ four_ints }
     ensures { bytes.new ≡ stored int (bits 4 mask) (a ∷ b ∷ c ∷ d ∷ []) bytes.old }
@@ -316,12 +271,9 @@ fn store_ints(bytes: &mut [u8], mask: u64, x: [u32; 16], n: usize)
     requires { (n ≤ chunk_lanes) × (length bytes.old ≡ whole int n) }
     ensures { bytes.new ≡ stored int (bits n mask) x bytes.old }
 {
-    let mut i = 0usize;
-    while i < n {
+    for i in 0..n {
         let from = i * INT;
-        let to = from + INT;
-        put_if(&mut bytes[from..to], (mask >> i) & 1 == 1, x[i]);
-        i += 1;
+        put_if(&mut bytes[from..from + INT], (mask >> i) & 1 == 1, x[i]);
     }
 }
 
@@ -330,12 +282,10 @@ fn store_bools(bytes: &mut [u8], mask: u64, x: [u32; 16], n: usize)
     requires { (n ≤ chunk_lanes) × (length bytes.old ≡ whole bool n) }
     ensures { bytes.new ≡ stored bool (bits n mask) x bytes.old }
 {
-    let mut i = 0usize;
-    while i < n {
+    for i in 0..n {
         if (mask >> i) & 1 == 1 {
             bytes[i] = operators::truth_byte(x[i]);
         }
-        i += 1;
     }
 }
 
@@ -379,10 +329,8 @@ pub fn truths(x: [u32; 16]) -> u64
     ensures { result ≡ number (map truth x) }
 {
     let mut r = 0u32;
-    let mut i = 0usize;
-    while i < 16 {
+    for i in 0..CHUNK {
         r = r + (x[i] << i);
-        i += 1;
     }
     r as u64
 }

@@ -4,3 +4,4 @@ pub mod Patterns
 pub mod Arithmetic
 pub mod Comparisons
 pub mod Worked
+pub mod Made

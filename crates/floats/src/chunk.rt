@@ -7,19 +7,14 @@ ghost use Rattle.operators.specs.Operators.{Sum};
 ghost use Rattle.floats.specs.Comparisons.{Compares};
 
 use meaning::Binary;
+use std::array;
 
 // `+`, `-` or `*`, lane by lane.
 pub fn sums(operator: Binary, x: [u32; 16], y: [u32; 16]) -> [u32; 16]
     requires { Sum operator }
     ensures { result ≡ zip_with (float_binary operator) x y }
 {
-    let mut r = [0u32; 16];
-    let mut i = 0usize;
-    while i < 16 {
-        r[i] = crate::sum(operator, x[i], y[i]);
-        i += 1;
-    }
-    r
+    array::from_fn(|i| crate::sum(operator, x[i], y[i]))
 }
 
 // A comparison, lane by lane.
@@ -27,37 +22,19 @@ pub fn orders(operator: Binary, x: [u32; 16], y: [u32; 16]) -> [u32; 16]
     requires { Compares operator }
     ensures { result ≡ zip_with (float_binary operator) x y }
 {
-    let mut r = [0u32; 16];
-    let mut i = 0usize;
-    while i < 16 {
-        r[i] = crate::order(operator, x[i], y[i]);
-        i += 1;
-    }
-    r
+    array::from_fn(|i| crate::order(operator, x[i], y[i]))
 }
 
 // Unary `-`, lane by lane.
 pub fn minuses(x: [u32; 16]) -> [u32; 16]
     ensures { result ≡ map negated x }
 {
-    let mut r = [0u32; 16];
-    let mut i = 0usize;
-    while i < 16 {
-        r[i] = crate::minus(x[i]);
-        i += 1;
-    }
-    r
+    array::from_fn(|i| crate::minus(x[i]))
 }
 
 // Lanes as they are stored.
 pub fn one_nans(x: [u32; 16]) -> [u32; 16]
     ensures { result ≡ map one_nan x }
 {
-    let mut r = [0u32; 16];
-    let mut i = 0usize;
-    while i < 16 {
-        r[i] = crate::one_nan(x[i]);
-        i += 1;
-    }
-    r
+    array::from_fn(|i| crate::one_nan(x[i]))
 }

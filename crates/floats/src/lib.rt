@@ -37,11 +37,11 @@ fn single(pattern: u32) -> f32
     }
 }
 
-// The pattern of a single. The not-a-number alone differs from itself.
+// The pattern of a single.
 fn pattern(x: f32) -> u32
     ensures { result ≡ to_bits binary32 x }
 {
-    if x != x {
+    if x.is_nan() {
         NOT_A_NUMBER
     } else {
         f32::to_bits(x)

@@ -6,12 +6,11 @@ use Rattle.blocks.proofs.Bytes.{length-load, whole_bool, bool_at}
 use Rattle.blocks.proofs.bools.Goals as goal
 
 pub loop-i-init : goal.loop-i-init
-loop-i-init c = (c.requires.0, (rw (whole_bool _) at c.requires.1, begun _ _ (rw (length-load bool _ _) c.requires.0) refl))
+loop-i-init c = begun _ _ (rw (length-load bool _ _) c.requires.0) refl
 
 pub loop-i-preserved : goal.loop-i-preserved
-loop-i-preserved c = let inv = c.loop-i.invariant in
-    let taken = c.loop-i-test.true in
-    (inv.0, (inv.1.0, one_made inv.1.1 _ (rw (length-load bool _ _) taken) (c.bit.ensures ∙ bool_at _ _ _ _ inv.1.0 taken)))
+loop-i-preserved c = let taken = c.loop-i-test.true in
+    one_made c.loop-i.invariant _ (rw (length-load bool _ _) taken) (c.bit.ensures ∙ bool_at _ _ _ _ (rw (whole_bool _) at c.requires.1) taken)
 
 pub returns : goal.returns
-returns c = made_padded c.loop-i.invariant.1.1 (rw (length-load bool _ _) c.loop-i-test.false)
+returns c = made_padded c.loop-i.invariant (rw (length-load bool _ _) c.loop-i-test.false)

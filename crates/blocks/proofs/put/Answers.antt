@@ -10,8 +10,5 @@ loop-i-init c = paste_begun _ _ _ (search rules) c.requires
 pub loop-i-preserved : goal.loop-i-preserved
 loop-i-preserved c = one_pasted c.loop-i.invariant c.loop-i-test.true refl
 
-pub shape_of-registers : goal.shape_of-registers
-shape_of-registers c = c.loop-i.invariant.size
-
 pub returns : goal.returns
 returns c = pasted c.loop-i.invariant c.loop-i-test.false

@@ -1,10 +1,6 @@
--- What each turn of the loop of `blocks::put` keeps, and what falls with it.
-use Prim.Native.Nat.{◌-◌}
+-- What each turn of the loop of `blocks::put` keeps.
 use Rattle.blocks.proofs.Chunks.{Pasting}
 use Rattle.blocks.proofs.put.Given as goal
 
 abbrev pub invariant-loop-i : goal.invariant-loop-i
 invariant-loop-i l = Pasting l.initial.registers l.at l.x l.registers l.i
-
-abbrev pub decreases-loop-i : goal.decreases-loop-i
-decreases-loop-i l = 16 - l.i

@@ -29,8 +29,5 @@ loop-i-preserved c = let bytes = c.loop-i.bytes in
       | else-mask-i-eq1 w ↦ w.bytes-is ∙ bool_kept bytes i _ _ room (ne_eqb _ 1 w.if-mask-i-eq1.false)
     ])
 
-pub shape_of-bytes : goal.shape_of-bytes
-shape_of-bytes c = c.loop-i.invariant.kept
-
 pub returns : goal.returns
 returns c = all_stored c.loop-i.invariant c.loop-i-test.false

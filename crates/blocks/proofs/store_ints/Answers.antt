@@ -18,8 +18,5 @@ put_if-requires c = length_int c.loop-i.bytes _ (lane_room c.loop-i.invariant c.
 pub loop-i-preserved : goal.loop-i-preserved
 loop-i-preserved c = one_stored c.loop-i.invariant c.loop-i-test.true (int_stored c.loop-i.bytes _ _ _ c.put_if.ensures)
 
-pub shape_of-bytes : goal.shape_of-bytes
-shape_of-bytes c = c.loop-i.invariant.kept
-
 pub returns : goal.returns
 returns c = all_stored c.loop-i.invariant c.loop-i-test.false

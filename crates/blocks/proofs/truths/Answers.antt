@@ -7,9 +7,6 @@ use Rattle.blocks.proofs.truths.Goals as goal
 pub loop-i-init : goal.loop-i-init
 loop-i-init c = count_begun _ (search rules) c.requires
 
-pub overflow_shl-r : goal.overflow_shl-r
-overflow_shl-r c = omega arith
-
 pub overflow_add-r : goal.overflow_add-r
 overflow_add-r c = record { fits = count_fits c.loop-i.invariant c.loop-i-test.true }
 

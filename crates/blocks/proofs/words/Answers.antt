@@ -43,27 +43,3 @@ orders-requires-in-Ge c = rw c.in-Ge.is at_least
 
 pub joins-requires : goal.joins-requires
 joins-requires c = let arm = c.in_default in rest c.args.operator arm.not-Add arm.not-Sub arm.not-Mul arm.not-Lt arm.not-Gt arm.not-Le arm.not-Ge
-
-pub returns-in-Add : goal.returns-in-Add
-returns-in-Add c = c.sums.ensures
-
-pub returns-in-Sub : goal.returns-in-Sub
-returns-in-Sub c = c.sums-in-Sub.ensures
-
-pub returns-in-Mul : goal.returns-in-Mul
-returns-in-Mul c = c.sums-in-Mul.ensures
-
-pub returns-in-Lt : goal.returns-in-Lt
-returns-in-Lt c = c.orders.ensures
-
-pub returns-in-Gt : goal.returns-in-Gt
-returns-in-Gt c = c.orders-in-Gt.ensures
-
-pub returns-in-Le : goal.returns-in-Le
-returns-in-Le c = c.orders-in-Le.ensures
-
-pub returns-in-Ge : goal.returns-in-Ge
-returns-in-Ge c = c.orders-in-Ge.ensures
-
-pub returns-in_default : goal.returns-in_default
-returns-in_default c = c.joins.ensures

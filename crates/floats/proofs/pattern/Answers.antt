@@ -1,20 +1,15 @@
--- `floats::pattern` meets its contract: only the not-a-number differs from itself. Assumes nothing.
-use mathlib.Core.Path.{◌≡◌, sym, ap, ◌∙◌, subst}
-use mathlib.Core.Bool.{false, not}
+-- `floats::pattern` meets its contract: the not-a-number has one pattern. Assumes nothing.
+use mathlib.Core.Path.{◌≡◌, refl, sym, ap, ◌∙◌, subst}
 use lib.Dec.{T}
-use lib.Ieee.{Float, nan, inf, fin, binary32, to_bits, is_nan, ne}
-use lib.Ieee.Compare.{differs_from_itself}
+use lib.Ieee.{Float, nan, inf, fin, binary32, to_bits, is_nan}
 use Rattle.floats.proofs.Rounding.{nan_pattern_bits}
 use Rattle.floats.proofs.pattern.Goals as goal
 
-no_nan : (x : Float) → ne x x ≡ false → T (not (is_nan x))
-unfolding is_nan ne
-no_nan nan h = subst T h tt
-no_nan (inf s) h = tt
-no_nan (fin s m e) h = tt
+the_nan : (x : Float) → T (is_nan x) → x ≡ nan
+unfolding is_nan
+the_nan nan h = refl
+the_nan (inf s) h = absurd h
+the_nan (fin s m e) h = absurd h
 
-pub float_to_bits-result : goal.float_to_bits-result
-float_to_bits-result c = no_nan c.args.x c.if-x.false
-
-pub returns-then-x : goal.returns-then-x
-returns-then-x c = sym (ap (to_bits binary32) (differs_from_itself c.args.x (subst T (sym c.if-x.true) tt)) ∙ nan_pattern_bits)
+pub returns-then-is_nan : goal.returns-then-is_nan
+returns-then-is_nan c = sym (ap (to_bits binary32) (the_nan c.args.x (subst T c.if-is_nan.ensures.value tt)) ∙ nan_pattern_bits)
