@@ -1,10 +1,9 @@
 -- What judging asks of its buffers, and what it says of a text.
-use Rattle.std.specs.Prelude.{ℕ, ◌*◌, ◌≤◌, min, ◌≡◌, List, length}
+use Rattle.std.specs.Prelude.{ℕ, ◌*◌, ◌≤◌, min, ◌≡◌, List, length, IfOk}
 use Rattle.meaning.specs.Codes.{text_limit}
 use Rattle.meaning.specs.Program.{Program}
 use Rattle.meaning.specs.Services.{judged}
-use Rattle.layout.specs.declared.Stage.{Stage}
-use Rattle.layout.specs.declared.Stage.TheVariants.{Done}
+use Rattle.layout.specs.Stage.{Stage}
 use Rattle.layout.specs.Sizes.{tree_room, tree_limit, table_room}
 use Rattle.layout.specs.Stack.{slot_words}
 use Rattle.laws.specs.Sound.{stack_limit}
@@ -25,4 +24,4 @@ pub record JudgingRoom (text tree table code stack : List ℕ) : Type 0 where
 pub record JudgesText (text table code : List ℕ) (r : Stage) : Type 0 where
   pub program : Program
   pub is : judged text ≡ program_out r program text table
-  pub accepted : (n z : ℕ) → r ≡ Done n z → Accepts text table code n z program
+  pub accepted : IfOk r (λ reached. Accepts text table code reached.count reached.size program)

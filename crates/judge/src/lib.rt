@@ -20,17 +20,7 @@ pub fn judge(
     requires { JudgingRoom text.now tree.old table.old code.old stack.old }
     ensures { JudgesText text.now table.new code.new result }
 {
-    let tokens = lex(text, code);
-    let Stage::Done {
-        count: _,
-        size: words,
-    } = tokens
-    else {
-        return tokens;
-    };
-    let tree_read = read(&code[..words], tree);
-    let Stage::Done { count: _, size } = tree_read else {
-        return tree_read;
-    };
-    program(text, &tree[..size], table, code, stack)
+    let lexed = lex(text, code)?;
+    let parsed = read(&code[..lexed.size], tree)?;
+    program(text, &tree[..parsed.size], table, code, stack)
 }

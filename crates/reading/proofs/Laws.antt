@@ -1,11 +1,13 @@
 -- How the definitions read a statement: one law for each way through the code.
 use Prim.Native.Nat.{ℕ, zero, suc, ◌+◌, ◌-◌, ◌<◌, ◌≤◌}
 use Prim.Native.String.{String}
+use mathlib.Core.Logic.{◌⊎◌, inl, inr}
 use mathlib.Core.Path.{◌≡◌, refl, ◌∙◌}
-use mathlib.Core.Bool.{true, false}
+use mathlib.Core.Bool.{true, false, ◌||◌, or-false}
 use mathlib.Core.List.{List, [], ◌++◌}
 use native.Mathlib.Numerals.{add-one, sub-one}
 use native.Mathlib.Omega.{arith}
+use lib.Dec.{eqb}
 use lib.ListN.{length, length-append}
 use lib.Seq.{sets, length-sets}
 use borrow.Author.Tests.{eq-eqb, ne_eqb}
@@ -121,6 +123,18 @@ module _ (ts : List Token) (r q : ℕ) (t : Token) where
       go : (r : ℕ) → (r ≡ 0 → ⊥) → braced ts r t q ≡ sequence ts "}" (statement ts (r - 1)) q
       go zero ne = absurd (ne refl)
       go (suc r) ne = rw sub-one
+
+-- `int`, `bool` or `float` begins a declaration.
+pub begins_declaration : {k : ℕ} → (k ≡ 16) ⊎ ((k ≡ 17) ⊎ (k ≡ 26)) → BeginsDeclaration k
+unfolding kind_tag the numbered reserved signs words marks
+begins_declaration (inl e) = record { kind = int; is = e }
+begins_declaration (inr (inl e)) = record { kind = bool; is = e }
+begins_declaration (inr (inr e)) = record { kind = float; is = e }
+
+-- What may begin a statement, by its kind.
+pub begins_are : (k : ℕ) → (k among begins) ≡ (eqb k 52 || (eqb k 53 || (eqb k 16 || (eqb k 17 || (eqb k 26 || (eqb k 2 || (eqb k 19 || (eqb k 21 || eqb k 22))))))))
+unfolding begins kinds the numbered reserved signs words marks
+begins_are k = simp or-false
 
 -- A branch or a body opens at its first token.
 module _ {ts : List Token} {at k p v : ℕ} (r : ℕ) (t : Seen ts at k p v) where

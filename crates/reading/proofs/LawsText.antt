@@ -4,14 +4,16 @@ use mathlib.Core.Path.{◌≡◌, refl}
 use mathlib.Core.List.{List}
 use native.Mathlib.Omega.{arith}
 use lib.ListN.{length}
+use Rattle.std.specs.declared.result.Result.TheVariants.{Ok, Err}
 use Rattle.meaning.specs.declared.Refusal.{Refusal}
 use Rattle.meaning.specs.declared.Refusal.TheVariants.{NotAllowed}
 use Rattle.meaning.specs.Codes.{ok, refused, after, ◌>>=◌, give, nesting_limit}
 use Rattle.meaning.specs.Tokens.{Token, the, words, marks, numbered, reserved, signs}
 use Rattle.meaning.specs.Tree.{Stmts, none_yet}
 use Rattle.meaning.specs.Reading.{expect, read}
-use Rattle.layout.specs.declared.Stage.{Stage}
-use Rattle.layout.specs.declared.Stage.TheVariants.{Done, Refused}
+use Rattle.layout.specs.Stage.{Stage}
+use Rattle.layout.specs.declared.Reached.{Reached}
+use Rattle.layout.specs.declared.Refused.{Refused}
 use Rattle.reading_expressions.specs.Contract.{HoldsOnly, ReadyToRead, Expects}
 use Rattle.reading_expressions.proofs.Laws.{Seen, seen, expected, not_expected}
 use Rattle.reading.specs.Contract.{listed, LentToRead, ReadsStatements, ReadsText}
@@ -39,27 +41,17 @@ pub ready_first : {T tree : List ℕ} → LentToRead T tree → ReadyToRead T 0 
 ready_first lent = record { text = lent.text; within = lent.text.some; space = omega (arith, lent.space) }
 
 -- A refusal is handed up as it is.
-pub tells_refused : {T tree : List ℕ} {r : Stage} {c : Refusal} {p : ℕ} → r ≡ Refused c p → ((ts : List Token) → HoldsOnly T ts → read ts ≡ refused c p) → ReadsText T tree r
-tells_refused is said = record {
-  fits = λ p q e. let z : ◌≡◌ {A = ℕ} 0 1 = cc in absurd (omega arith);
-  told = λ ts h. record { what = none_yet; is = rw is (said ts h); words = λ p q e. let z : ◌≡◌ {A = ℕ} 0 1 = cc in absurd (omega arith) };
-}
+pub tells_refused : {T tree : List ℕ} {r : Stage} {why : Refused} → r ≡ Err why → ((ts : List Token) → HoldsOnly T ts → read ts ≡ refused why.refusal why.place) → ReadsText T tree r
+tells_refused is said = rw is (record { fits = tt; told = λ ts h. record { what = none_yet; is = said ts h; words = tt } })
 
 -- After the statements stands the end of the text.
-pub tells_end : {T old new : List ℕ} {r' : Stage} {p q : ℕ} (r : Stage) → LentToRead T old → length new ≡ length old
-    → ReadsStatements 0 nesting_limit T 0 old 0 new r' → r' ≡ Done p q → Expects 0 T p q r → ReadsText T new r
-tells_end {p = p} {q = q} (Done p' q') lent kept s e x =
-    let m = s.moved p q e in
+pub tells_end : {T old new : List ℕ} {before : Reached} (r : Stage) → LentToRead T old → length new ≡ length old → ReadsStatements 0 nesting_limit T 0 old 0 new (Ok before)
+    → Expects 0 T before.count before.size r → ReadsText T new r
+tells_end (Ok reached) lent kept s x =
     let ready = ready_first lent in
-    let y = x.done p' q' refl in
+    let y = x.done in
     record {
-      fits = λ a b e'. let last : q' ≡ b = cc in omega (arith, y.2);
-      told = λ ts h. let d = s.done p q e ts h in record {
-        what = d.what;
-        is = rw y.1 (read_whole (seen h m.within) d.is y.0);
-        words = λ a b e'. let last : q' ≡ b = cc in rw (← last, y.2) d.wrote.is;
-      };
+      fits = omega (arith, s.moved, y.2);
+      told = λ ts h. let d = s.done ts h in record { what = d.what; is = rw y.1 (read_whole (seen h s.moved.within) d.is y.0); words = rw y.2 d.wrote.is };
     }
-tells_end {p = p} {q = q} (Refused c x') lent kept s e x =
-    let y = x.refused c x' refl in
-    tells_refused refl (λ ts h. rw (y.1, y.2) (read_open (seen h (s.moved p q e).within) (s.done p q e ts h).is y.0))
+tells_end (Err why) lent kept s x = let y = x.refused in tells_refused refl (λ ts h. rw (y.1, y.2) (read_open (seen h s.moved.within) (s.done ts h).is y.0))

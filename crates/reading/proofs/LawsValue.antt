@@ -11,6 +11,9 @@ use lib.Dec.{eqb}
 use lib.ListN.{length}
 use lib.Seq.{sets, length-sets}
 use borrow.Author.Tests.{ne_eqb}
+use Rattle.std.specs.declared.result.Result.TheVariants.{Ok, Err}
+use Rattle.std.specs.Result.{IsErrAnd}
+use Rattle.std.proofs.lemmas.Result.{IfOk-weaker, IfErr-weaker}
 use Rattle.meaning.specs.declared.Kind.{Kind}
 use Rattle.meaning.specs.declared.Kind.TheVariants.{Int as int, Bool as bool, Float as float}
 use Rattle.meaning.specs.declared.Refusal.{Refusal}
@@ -19,11 +22,13 @@ use Rattle.meaning.specs.Codes.{Out, ok, refused, after, ◌>>=◌, give}
 use Rattle.meaning.specs.Tokens.{Token, the, words, marks, numbered, reserved, signs}
 use Rattle.meaning.specs.Tree.{Expr, Stmt, declare, assign}
 use Rattle.meaning.specs.Reading.{◌⇒◌, look, next, choose, expect, expression, block, declaration, assignment, statement}
+use Rattle.layout.proofs.Handed.{handed_up}
 use Rattle.layout.specs.Tokens.{kind_at}
 use Rattle.layout.specs.Words.{unit, flat, kind_tag, block_length, block_place, value_place, value_words, flat_stmt}
 use Rattle.reading_expressions.specs.Contract.{HoldsOnly, EndsAText, Read, Expects, token_at, token_count}
-use Rattle.layout.specs.declared.Stage.{Stage}
-use Rattle.layout.specs.declared.Stage.TheVariants.{Done, Refused}
+use Rattle.layout.specs.Stage.{Stage}
+use Rattle.layout.specs.declared.Reached.{Reached}
+use Rattle.layout.specs.declared.Refused.{Refused}
 use Rattle.reading_expressions.proofs.Answers.{Leaf, past}
 use Rattle.reading_expressions.proofs.Laws.{Seen, seen, expected, not_expected}
 use Rattle.reading.specs.Contract.{valued, initial, BeginsDeclaration, Between, ReadsBlock, with_head}
@@ -217,49 +222,44 @@ module _ {T : List ℕ} {at : ℕ} (text : EndsAText T) (lt : at < token_count T
   pub open_there : at + 1 < token_count T
   open_there = past text lt word (omega arith)
 
-  block_refuses : {r : Stage} {c : Refusal} {x : ℕ} → r ≡ Refused c x → ((ts : List Token) → HoldsOnly T ts → block ts at ≡ refused c x) → ReadsBlock T at r
-  block_refuses {c = c} {x} is said = record {
-    behind = λ p q e. let z : ◌≡◌ {A = ℕ} 0 1 = cc in absurd (omega arith);
-    done = λ p q e. let z : ◌≡◌ {A = ℕ} 0 1 = cc in absurd (omega arith);
-    refused = λ c' p e. let a : c ≡ c' = cc in let b : x ≡ p = cc in rw (← a, ← b) said;
-  }
+  block_refuses : {r : Stage} {why : Refused} → IsErrAnd r (λ x. x ≡ why) → ((ts : List Token) → HoldsOnly T ts → block ts at ≡ refused why.refusal why.place) → ReadsBlock T at r
+  block_refuses up said = rw (handed_up _ up) (record { behind = tt; done = tt; refused = said })
 
-  pub open_missing : {s x : ℕ} {r : Stage} {c : Refusal} → Expects 57 T (at + 1) s r → r ≡ Refused c x → ReadsBlock T at r
-  open_missing {x = x} {c = c} e is = let y = e.refused c x is in
-      block_refuses is (λ ts h. rw (y.1, y.2) (no_open (seen h lt) word (seen h open_there) y.0))
+  pub open_missing : {s : ℕ} {r : Stage} {why : Refused} → Expects 57 T (at + 1) s (Err why) → IsErrAnd r (λ x. x ≡ why) → ReadsBlock T at r
+  open_missing x up = let y = x.refused in block_refuses up (λ ts h. rw (y.1, y.2) (no_open (seen h lt) word (seen h open_there) y.0))
 
-  module _ {s p q : ℕ} {r : Stage} (bracket : Expects 57 T (at + 1) s r) (opened : r ≡ Done p q) where
-    open_is : (kind_at T (at + 1) ≡ 57) × (p ≡ at + 1 + 1)
-    open_is = let y = bracket.done p q opened in (y.0, y.1)
+  module _ {s : ℕ} {bracket : Reached} (opened : Expects 57 T (at + 1) s (Ok bracket)) where
+    open_is : (kind_at T (at + 1) ≡ 57) × (bracket.count ≡ at + 1 + 1)
+    open_is = let y = opened.done in (y.0, y.1)
 
     second_there : at + 1 + 1 < token_count T
     second_there = past text open_there open_is.0 (omega arith)
 
-    pub number_there : p < token_count T
+    pub number_there : bracket.count < token_count T
     number_there = rw open_is.1 second_there
 
-    pub number_missing : {s' x : ℕ} {r' : Stage} {c : Refusal} → Expects 1 T p s' r' → r' ≡ Refused c x → ReadsBlock T at r'
-    number_missing {x = x} {c = c} e is = let y = rw open_is.1 at (e.refused c x is) in
-        block_refuses is (λ ts h. rw (y.1, y.2) (no_number (seen h lt) word (seen h open_there) open_is.0 (seen h second_there) y.0))
+    pub number_missing : {s' : ℕ} {r : Stage} {why : Refused} → Expects 1 T bracket.count s' (Err why) → IsErrAnd r (λ x. x ≡ why) → ReadsBlock T at r
+    number_missing x up = let y = rw open_is.1 at x.refused in
+        block_refuses up (λ ts h. rw (y.1, y.2) (no_number (seen h lt) word (seen h open_there) open_is.0 (seen h second_there) y.0))
 
-    module _ {s' p' q' : ℕ} {r' : Stage} (number : Expects 1 T p s' r') (numbered : r' ≡ Done p' q') where
-      number_is : (kind_at T (at + 1 + 1) ≡ 1) × (p' ≡ at + 1 + 1 + 1)
-      number_is = let y = rw open_is.1 at (number.done p' q' numbered) in (y.0, y.1)
+    module _ {s' : ℕ} {number : Reached} (numbered : Expects 1 T bracket.count s' (Ok number)) where
+      number_is : (kind_at T (at + 1 + 1) ≡ 1) × (number.count ≡ at + 1 + 1 + 1)
+      number_is = let y = rw open_is.1 at numbered.done in (y.0, y.1)
 
       third_there : at + 1 + 1 + 1 < token_count T
       third_there = past text second_there number_is.0 (omega arith)
 
-      pub close_there : p' < token_count T
+      pub close_there : number.count < token_count T
       close_there = rw number_is.1 third_there
 
-      pub block_answers : {s'' : ℕ} {r'' : Stage} → Expects 58 T p' s'' r'' → ReadsBlock T at r''
-      block_answers e = record {
-        behind = λ a b is. let y = e.done a b is in omega (arith, number_is);
-        done = λ a b is. let y = rw number_is.1 at (e.done a b is) in let two : at + 1 + 1 ≡ at + 2 = omega arith in record {
+      pub block_answers : {s'' : ℕ} {r : Stage} → Expects 58 T number.count s'' r → ReadsBlock T at r
+      block_answers {r = r} x = record {
+        behind = IfOk-weaker r _ _ (λ reached y. omega (arith, number_is)) x.done;
+        done = IfOk-weaker r _ _ (λ reached closed. let y = rw number_is.1 at closed in let two : at + 1 + 1 ≡ at + 2 = omega arith in record {
           on = omega arith;
           within = rw y.1 (past text third_there y.0 (omega arith));
           what = λ ts h. rw (y.1, ← two) (block_read (seen h lt) word (seen h open_there) open_is.0 (seen h second_there) number_is.0 (seen h third_there) y.0);
-        };
-        refused = λ c x is ts h. let y = rw number_is.1 at (e.refused c x is) in
-            rw (y.1, y.2) (no_close (seen h lt) word (seen h open_there) open_is.0 (seen h second_there) number_is.0 (seen h third_there) y.0);
+        }) x.done;
+        refused = IfErr-weaker r _ _ (λ why other ts h. let y = rw number_is.1 at other in
+            rw (y.1, y.2) (no_close (seen h lt) word (seen h open_there) open_is.0 (seen h second_there) number_is.0 (seen h third_there) y.0)) x.refused;
       }

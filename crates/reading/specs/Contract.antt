@@ -1,9 +1,8 @@
 -- What the functions that read statements ask, and what their answers say.
-use Rattle.std.specs.Prelude.{ℕ, zero, suc, ◌+◌, ◌*◌, ◌-◌, ◌≤◌, ◌<◌, ◌≡◌, List, ◌++◌, eqb, length, take}
+use Rattle.std.specs.Prelude.{ℕ, zero, suc, ◌+◌, ◌*◌, ◌-◌, ◌≤◌, ◌<◌, ◌≡◌, List, ◌++◌, eqb, length, take, IfOk, IfErr}
 use Rattle.std.proofs.Math.Option.{Option, none, some}
 use Rattle.std.proofs.lemmas.List.Edits.{sets}
 use Rattle.meaning.specs.declared.Kind.{Kind}
-use Rattle.meaning.specs.declared.Refusal.{Refusal}
 use Rattle.meaning.specs.Codes.{Out, ok, refused, ◌>>=◌, ◌>>◌, give, when◌then◌else◌}
 use Rattle.meaning.specs.Tokens.{Token, the}
 use Rattle.meaning.specs.Tree.{Expr, Block, Stmt, Stmts, none_yet, ◌⨾◌}
@@ -12,8 +11,7 @@ use Rattle.layout.specs.Tokens.{place_at, value_at}
 use Rattle.layout.specs.Words.{unit_words, unit, flat, value_place, value_words, flat_stmt, flat_stmts, block_length, block_place, kind_tag}
 use Rattle.layout.specs.Heads.{short_head, long_head}
 use Rattle.reading_expressions.specs.Contract.{HoldsOnly, EndsAText, ReadsAs, outcome, token_count}
-use Rattle.layout.specs.declared.Stage.{Stage}
-use Rattle.layout.specs.declared.Stage.TheVariants.{Done, Refused}
+use Rattle.layout.specs.Stage.{Stage}
 
 -- A value: `=`, an expression and `;`, with the place of the `=`.
 unfoldable pub valued : List Token → ℕ → Reads (ℕ × Expr)
@@ -73,9 +71,9 @@ to_length = 2
 
 -- What `block` answers, where the token `at` is `block`.
 pub record ReadsBlock (tokens : List ℕ) (at : ℕ) (r : Stage) : Type 0 where
-  pub behind : (p q : ℕ) → r ≡ Done p q → at + to_length < p
-  pub done : (p q : ℕ) → r ≡ Done p q → Blocked tokens at p (value_at tokens (at + to_length)) (place_at tokens (at + to_length))
-  pub refused : (c : Refusal) (p : ℕ) → r ≡ Refused c p → (ts : List Token) → HoldsOnly tokens ts → block ts at ≡ refused c p
+  pub behind : IfOk r (λ reached. at + to_length < reached.count)
+  pub done : IfOk r (λ reached. Blocked tokens at reached.count (value_at tokens (at + to_length)) (place_at tokens (at + to_length)))
+  pub refused : IfErr r (λ why. (ts : List Token) → HoldsOnly tokens ts → block ts at ≡ refused why.refusal why.place)
 
 -- The answers of `value` and `initial`, which write a unit with `end` and the place of the `=` before the value.
 abbrev pub ReadsValue : ℕ → ℕ → List ℕ → ℕ → List ℕ → ℕ → List ℕ → Stage → Type 0
@@ -120,9 +118,9 @@ pub record LentToRead (tokens tree : List ℕ) : Type 0 where
 pub record TextIs (o : Out ℕ Stmts) (tree : List ℕ) (r : Stage) : Type 0 where
   pub what : Stmts
   pub is : o ≡ outcome r what
-  pub words : (p q : ℕ) → r ≡ Done p q → take q tree ≡ flat_stmts what
+  pub words : IfOk r (λ reached. take reached.size tree ≡ flat_stmts what)
 
 -- What the reader's answer says, whatever tokens ts the buffer holds.
 pub record ReadsText (tokens tree : List ℕ) (r : Stage) : Type 0 where
-  pub fits : (p q : ℕ) → r ≡ Done p q → q ≤ length tree
+  pub fits : IfOk r (λ reached. reached.size ≤ length tree)
   pub told : (ts : List Token) → HoldsOnly tokens ts → TextIs (read ts) tree r

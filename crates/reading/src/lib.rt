@@ -1,7 +1,9 @@
 // Reads a text's tokens in a lent buffer to its tree in a lent buffer: refusals 3 and 4.
+// No struct of the tokens and the tree, as in `reading_expressions`.
 #![tactic(auto)]
 
 ghost use Rattle.std.specs.Prelude.{◌≡◌, ◌+◌, ◌≤◌, ◌<◌, length};
+ghost use Rattle.std.specs.declared.result.Result.TheVariants.{Ok};
 ghost use Rattle.meaning.specs.Codes.{◌among◌};
 ghost use Rattle.meaning.specs.Tokens.{the};
 ghost use Rattle.meaning.specs.Reading.{begins};
@@ -12,7 +14,7 @@ ghost use Rattle.reading_expressions.specs.Contract.{ReadyToRead, EndsAText, tok
 ghost use Rattle.reading.specs.Contract.{BeginsDeclaration, Blocked, LentToRead, with_head, with_long_head};
 ghost use Rattle.reading.specs.Contract.{ReadsBlock, ReadsCondition, ReadsInitial, ReadsOpening, ReadsOtherwise, ReadsStatement, ReadsStatements, ReadsText, ReadsValue};
 
-use layout::{Stage, UNIT, head, limit, put_unit, tag, token};
+use layout::{Reached, Stage, UNIT, head, limit, put_unit, tag, token};
 use meaning::Refusal;
 use reading_expressions::{expect, expression, node, parenthesised, refuse};
 
@@ -25,13 +27,13 @@ const LENGTH: usize = 2;
 // Writes the first unit of a statement's head; what else it has stands behind, up to word `end`. Reading goes on at `next`.
 fn put_head(tree: &mut [u32], size: usize, tag: u32, place: u32, end: usize, next: usize) -> Stage
     requires { (size + short_head ≤ end) × (end ≤ length tree.old) × (end ≤ size + tree_limit) }
-    ensures { (result ≡ Stage.Done next end) × (tree.new ≡ with_head tag place size end tree.old) }
+    ensures { (result ≡ Ok (record { count = next; size = end })) × (tree.new ≡ with_head tag place size end tree.old) }
 {
     put_unit(tree, size, tag, place, (end - (size + head::SHORT)) as u32);
-    Stage::Done {
+    Ok(Reached {
         count: next,
         size: end,
-    }
+    })
 }
 
 // The same of a head of two units, which has the words of two parts: one ends at word `first`, the other at `second`.
@@ -46,7 +48,7 @@ fn put_long_head(
     next: usize,
 ) -> Stage
     requires { (size + long_head ≤ first) × (first ≤ second) × (second ≤ end) × (end ≤ length tree.old) × (end ≤ size + tree_limit) }
-    ensures { (result ≡ Stage.Done next end) × (tree.new ≡ with_long_head tag place size first second end tree.old) }
+    ensures { (result ≡ Ok (record { count = next; size = end })) × (tree.new ≡ with_long_head tag place size first second end tree.old) }
 {
     let words = first - (size + head::LONG);
     put_unit(tree, size + UNIT, words as u32, (second - first) as u32, 0);
@@ -54,18 +56,22 @@ fn put_long_head(
 }
 
 // May a token of this kind begin a statement?
+#[tactic(auto, using(crate::proofs::Laws::begins_are))]
 fn may_begin(kind: u32) -> bool
     ensures { result ≡ (kind among begins) }
 {
-    (kind == token::SEMICOLON)
-        | (kind == token::OPEN_BRACE)
-        | (kind == token::INT)
-        | (kind == token::BOOL)
-        | (kind == token::FLOAT)
-        | (kind == token::NAME)
-        | (kind == token::IF)
-        | (kind == token::WHILE)
-        | (kind == token::SCALAR)
+    matches!(
+        kind,
+        token::SEMICOLON
+            | token::OPEN_BRACE
+            | token::INT
+            | token::BOOL
+            | token::FLOAT
+            | token::NAME
+            | token::IF
+            | token::WHILE
+            | token::SCALAR
+    )
 }
 
 // Reads `=`, an expression and `;`, and writes a unit with `end` and the place of the `=` before the value.
@@ -74,23 +80,11 @@ fn value(tokens: &[u32], at: usize, end: u32, room: u32, tree: &mut [u32], size:
     ensures { ReadsValue end room tokens.now at tree.old size tree.new result }
 {
     let place = token::place(tokens, at);
-    let sign = expect(token::BECOMES, tokens, at, size);
-    let Stage::Done { .. } = sign else {
-        return sign;
-    };
-    let right = expression(tokens, at + 1, room, tree, size + UNIT);
-    let Stage::Done { count: p, size: q } = right else {
-        return right;
-    };
-    let close = expect(token::SEMICOLON, tokens, p, q);
-    let Stage::Done { count: next, .. } = close else {
-        return close;
-    };
+    let sign = expect(token::BECOMES, tokens, at, size)?;
+    let right = expression(tokens, sign.count, room, tree, size + UNIT)?;
+    let close = expect(token::SEMICOLON, tokens, right.count, right.size)?;
     put_unit(tree, size, end, place, 0);
-    Stage::Done {
-        count: next,
-        size: q,
-    }
+    Ok(close)
 }
 
 // Reads what follows a declared name, `;` or a value, and writes it as `value` does.
@@ -112,11 +106,8 @@ fn assignment(tokens: &[u32], at: usize, room: u32, tree: &mut [u32], size: usiz
 {
     let place = token::place(tokens, at);
     let end = token::value(tokens, at);
-    let right = value(tokens, at + 1, end, room, tree, size + head::SHORT);
-    let Stage::Done { count: p, size: q } = right else {
-        return right;
-    };
-    put_head(tree, size, tag::ASSIGNMENT, place, q, p)
+    let right = value(tokens, at + 1, end, room, tree, size + head::SHORT)?;
+    put_head(tree, size, tag::ASSIGNMENT, place, right.size, right.count)
 }
 
 // Reads a declaration from its name on; the type before it has N `length` at `place`.
@@ -137,18 +128,12 @@ fn declared(
 {
     let kind = token::kind(tokens, at);
     let begin = token::place(tokens, at);
-    let named = expect(token::NAME, tokens, name, size);
-    let Stage::Done { count: next, .. } = named else {
-        return named;
-    };
+    let named = expect(token::NAME, tokens, name, size)?;
     let spelled = token::place(tokens, name);
     let end = token::value(tokens, name);
-    let rest = initial(tokens, next, end, room, tree, size + head::LONG);
-    let Stage::Done { count: p, size: q } = rest else {
-        return rest;
-    };
+    let rest = initial(tokens, named.count, end, room, tree, size + head::LONG)?;
     put_unit(tree, size + head::SHORT, length, place, spelled);
-    put_head(tree, size, kind, begin, q, p)
+    put_head(tree, size, kind, begin, rest.size, rest.count)
 }
 
 // Reads `[`, N and `]` behind the `block` at `at`.
@@ -156,15 +141,9 @@ fn block(tokens: &[u32], at: usize, size: usize) -> Stage
     requires { EndsAText tokens.now × (at < token_count tokens.now) × (kind_at tokens.now at ≡ the "block") }
     ensures { ReadsBlock tokens.now at result }
 {
-    let bracket = expect(token::OPEN_BRACKET, tokens, at + 1, size);
-    let Stage::Done { count: length, .. } = bracket else {
-        return bracket;
-    };
-    let number = expect(token::NUMBER, tokens, length, size);
-    let Stage::Done { count: close, .. } = number else {
-        return number;
-    };
-    expect(token::CLOSE_BRACKET, tokens, close, size)
+    let bracket = expect(token::OPEN_BRACKET, tokens, at + 1, size)?;
+    let number = expect(token::NUMBER, tokens, bracket.count, size)?;
+    expect(token::CLOSE_BRACKET, tokens, number.count, size)
 }
 
 // Reads a declaration.
@@ -177,13 +156,10 @@ fn declaration(tokens: &[u32], at: usize, room: u32, tree: &mut [u32], size: usi
     if token::kind(tokens, behind) != token::BLOCK {
         return declared(tokens, at, behind, 0, 0, room, tree, size);
     }
-    let read = block(tokens, behind, size);
-    let Stage::Done { count: name, .. } = read else {
-        return read;
-    };
+    let read = block(tokens, behind, size)?;
     let length = token::value(tokens, behind + LENGTH);
     let place = token::place(tokens, behind + LENGTH);
-    declared(tokens, at, name, length, place, room, tree, size)
+    declared(tokens, at, read.count, length, place, room, tree, size)
 }
 
 // Reads a condition, behind a unit left free at `size`.
@@ -191,10 +167,7 @@ fn condition(tokens: &[u32], at: usize, room: u32, tree: &mut [u32], size: usize
     requires { ReadyToRead tokens.now at tree.old size }
     ensures { ReadsCondition room tokens.now at tree.old size tree.new result }
 {
-    let sign = expect(token::OPEN, tokens, at, size);
-    let Stage::Done { .. } = sign else {
-        return sign;
-    };
+    expect(token::OPEN, tokens, at, size)?;
     parenthesised(tokens, at, room, tree, size + UNIT)
 }
 
@@ -219,11 +192,8 @@ fn otherwise(tokens: &[u32], at: usize, room: u32, tree: &mut [u32], size: usize
     requires { ReadyToRead tokens.now at tree.old size }
     ensures { ReadsOtherwise room tokens.now at tree.old size tree.new result }
 {
-    let word = expect(token::ELSE, tokens, at, size);
-    let Stage::Done { .. } = word else {
-        return word;
-    };
-    opening(tokens, at + 1, room, tree, size)
+    let word = expect(token::ELSE, tokens, at, size)?;
+    opening(tokens, word.count, room, tree, size)
 }
 
 // Reads an `if`.
@@ -234,27 +204,19 @@ fn if_else(tokens: &[u32], at: usize, room: u32, tree: &mut [u32], size: usize) 
     ensures { ReadsStatement room tokens.now at tree.old size tree.new result }
 {
     let place = token::place(tokens, at);
-    let test = condition(tokens, at + 1, room, tree, size + head::SHORT);
-    let Stage::Done { count: p, size: q } = test else {
-        return test;
-    };
-    let first = opening(tokens, p, room, tree, q);
-    let Stage::Done {
-        count: p1,
-        size: q1,
-    } = first
-    else {
-        return first;
-    };
-    let second = otherwise(tokens, p1, room, tree, q1);
-    let Stage::Done {
-        count: p2,
-        size: q2,
-    } = second
-    else {
-        return second;
-    };
-    put_long_head(tree, size, tag::IF, place, q, q1, q2, p2)
+    let test = condition(tokens, at + 1, room, tree, size + head::SHORT)?;
+    let first = opening(tokens, test.count, room, tree, test.size)?;
+    let second = otherwise(tokens, first.count, room, tree, first.size)?;
+    put_long_head(
+        tree,
+        size,
+        tag::IF,
+        place,
+        test.size,
+        first.size,
+        second.size,
+        second.count,
+    )
 }
 
 // Reads a `while`.
@@ -265,19 +227,18 @@ fn while_loop(tokens: &[u32], at: usize, room: u32, tree: &mut [u32], size: usiz
     ensures { ReadsStatement room tokens.now at tree.old size tree.new result }
 {
     let place = token::place(tokens, at);
-    let test = condition(tokens, at + 1, room, tree, size + head::SHORT);
-    let Stage::Done { count: p, size: q } = test else {
-        return test;
-    };
-    let body = opening(tokens, p, room, tree, q);
-    let Stage::Done {
-        count: p1,
-        size: q1,
-    } = body
-    else {
-        return body;
-    };
-    put_long_head(tree, size, tag::WHILE, place, q, q, q1, p1)
+    let test = condition(tokens, at + 1, room, tree, size + head::SHORT)?;
+    let body = opening(tokens, test.count, room, tree, test.size)?;
+    put_long_head(
+        tree,
+        size,
+        tag::WHILE,
+        place,
+        test.size,
+        test.size,
+        body.size,
+        body.count,
+    )
 }
 
 // Reads a `scalar`.
@@ -288,11 +249,8 @@ fn scalar(tokens: &[u32], at: usize, room: u32, tree: &mut [u32], size: usize) -
     ensures { ReadsStatement room tokens.now at tree.old size tree.new result }
 {
     let place = token::place(tokens, at);
-    let body = opening(tokens, at + 1, room, tree, size + head::SHORT);
-    let Stage::Done { count: p, size: q } = body else {
-        return body;
-    };
-    put_head(tree, size, tag::SCALAR, place, q, p)
+    let body = opening(tokens, at + 1, room, tree, size + head::SHORT)?;
+    put_head(tree, size, tag::SCALAR, place, body.size, body.count)
 }
 
 // Reads statements up to a token of the kind `close`.
@@ -308,21 +266,12 @@ fn statements(
     requires { ReadyToRead tokens.now at tree.old size }
     ensures { ReadsStatements close room tokens.now at tree.old size tree.new result }
 {
-    let mut p = at;
-    let mut q = size;
-    while token::kind(tokens, p) != close {
-        let one = statement(tokens, p, room, tree, q);
-        let Stage::Done {
-            count: p1,
-            size: q1,
-        } = one
-        else {
-            return one;
-        };
-        p = p1;
-        q = q1;
+    let mut reached = Reached { count: at, size };
+    // No `for`: where the next statement stands is known when the one before it is read.
+    while token::kind(tokens, reached.count) != close {
+        reached = statement(tokens, reached.count, room, tree, reached.size)?;
     }
-    Stage::Done { count: p, size: q }
+    Ok(reached)
 }
 
 // Reads a sequence in braces.
@@ -343,18 +292,13 @@ fn braces(tokens: &[u32], at: usize, room: u32, tree: &mut [u32], size: usize) -
         room - 1,
         tree,
         size + head::SHORT,
-    );
-    let Stage::Done { count: p, size: q } = inside else {
-        return inside;
-    };
-    let close = expect(token::CLOSE_BRACE, tokens, p, q);
-    let Stage::Done { count: next, .. } = close else {
-        return close;
-    };
-    put_head(tree, size, tag::BRACES, place, q, next)
+    )?;
+    let close = expect(token::CLOSE_BRACE, tokens, inside.count, inside.size)?;
+    put_head(tree, size, tag::BRACES, place, inside.size, close.count)
 }
 
 // Reads a statement, where `room` more levels of nesting may open.
+// No table of functions: each is handed other parts of what is lent.
 #[cycle(nested_statements)]
 fn statement(tokens: &[u32], at: usize, room: u32, tree: &mut [u32], size: usize) -> Stage
     requires { ReadyToRead tokens.now at tree.old size }
@@ -364,9 +308,7 @@ fn statement(tokens: &[u32], at: usize, room: u32, tree: &mut [u32], size: usize
     match kind {
         token::SEMICOLON => node(tree, size, tag::EMPTY, token::place(tokens, at), 0, at + 1),
         token::OPEN_BRACE => braces(tokens, at, room, tree, size),
-        token::INT => declaration(tokens, at, room, tree, size),
-        token::BOOL => declaration(tokens, at, room, tree, size),
-        token::FLOAT => declaration(tokens, at, room, tree, size),
+        token::INT | token::BOOL | token::FLOAT => declaration(tokens, at, room, tree, size),
         token::NAME => assignment(tokens, at, room, tree, size),
         token::IF => if_else(tokens, at, room, tree, size),
         token::WHILE => while_loop(tokens, at, room, tree, size),
@@ -380,9 +322,6 @@ pub fn read(tokens: &[u32], tree: &mut [u32]) -> Stage
     requires { LentToRead tokens.now tree.old }
     ensures { ReadsText tokens.now tree.new result }
 {
-    let all = statements(token::END, tokens, 0, NESTING, tree, 0);
-    let Stage::Done { count: p, size: q } = all else {
-        return all;
-    };
-    expect(token::END, tokens, p, q)
+    let all = statements(token::END, tokens, 0, NESTING, tree, 0)?;
+    expect(token::END, tokens, all.count, all.size)
 }

@@ -6,15 +6,20 @@ use native.Mathlib.Nat.{lt_of_not-le, mul-div_cancel}
 use native.Mathlib.Omega.{arith}
 use lib.ListN.{length, take, drop, length-append}
 use lib.Seq.{sets, sets-eq, take-take, take-append-le, take_at, take-add, take-append-add, drop_at, length-take-le}
+use Rattle.std.specs.declared.result.Result.TheVariants.{Ok, Err}
+use Rattle.std.specs.Result.{IsErrAnd}
+use Rattle.std.proofs.lemmas.Result.{IfOk-weaker, IfErr-weaker}
 use Rattle.meaning.specs.declared.Refusal.{Refusal}
 use Rattle.meaning.specs.declared.Refusal.TheVariants.{NotAllowed}
 use Rattle.meaning.specs.Codes.{Out, ok, refused}
 use Rattle.meaning.specs.Tokens.{Token, the}
+use Rattle.layout.proofs.Handed.{handed_up}
 use Rattle.laws.proofs.The.{the_end}
 use Rattle.layout.specs.Tokens.{token_words, kind_at, place_at}
 use Rattle.layout.specs.Words.{unit}
-use Rattle.layout.specs.declared.Stage.{Stage}
-use Rattle.layout.specs.declared.Stage.TheVariants.{Done, Refused}
+use Rattle.layout.specs.Stage.{Stage}
+use Rattle.layout.specs.declared.Reached.{Reached}
+use Rattle.layout.specs.declared.Refused.{Refused}
 use Rattle.reading_expressions.specs.Contract.{HoldsOnly, EndsAText, ReadyToRead, Appends, PutsNode, Moved, Read, ReadsAs, Expects, token_count}
 
 -- How many tokens a buffer of n tokens has.
@@ -140,67 +145,60 @@ pub record ReadsOn (least : ℕ) {A : Type 0} (G : List Token → Out ℕ A) (K 
   pub kept : length new ≡ length old
   pub so_far : (ts : List Token) → HoldsOnly tokens ts → SoFar (G ts) (K ts) fl (length ts) old n new p q
 
--- The kind of a token that was expected.
-pub as_expected : {kind : ℕ} {tokens : List ℕ} {at size p q : ℕ} {r : Stage} → Expects kind tokens at size r → r ≡ Done p q → kind_at tokens at ≡ kind
-as_expected {p = p} {q = q} x e = (x.done p q e).0
-
 -- The answers.
 module _ {least : ℕ} {A : Type 0} {G : List Token → Out ℕ A} {fl : A → List ℕ} {T : List ℕ} {at : ℕ} {old : List ℕ} {n : ℕ} {new : List ℕ} {r : Stage} where
-  pub shows_done : {p q : ℕ} → r ≡ Done p q → Moved least (token_count T) at n p q → ((ts : List Token) → HoldsOnly T ts → Read (G ts) fl old n new p q)
-      → ReadsAs least G fl T at old n new r
-  shows_done {p} {q} is moved read = record {
-    moved = λ p' q' e. let a : p ≡ p' = cc in let b : q ≡ q' = cc in rw (← a, ← b) moved;
-    done = λ p' q' e. let a : p ≡ p' = cc in let b : q ≡ q' = cc in rw (← a, ← b) read;
-    refused = λ c p' e. let z : ◌≡◌ {A = ℕ} 0 1 = cc in absurd (omega arith);
-  }
+  pub shows_done : {reached : Reached} → r ≡ Ok reached → Moved least (token_count T) at n reached.count reached.size
+      → ((ts : List Token) → HoldsOnly T ts → Read (G ts) fl old n new reached.count reached.size) → ReadsAs least G fl T at old n new r
+  shows_done is moved read = rw is (record { moved = moved; done = read; refused = tt })
 
-  pub shows_refused : {c : Refusal} {p : ℕ} → r ≡ Refused c p → ((ts : List Token) → HoldsOnly T ts → G ts ≡ refused c p) → ReadsAs least G fl T at old n new r
-  shows_refused {c} {p} is said = record {
-    moved = λ p' q e. let z : ◌≡◌ {A = ℕ} 0 1 = cc in absurd (omega arith);
-    done = λ p' q e. let z : ◌≡◌ {A = ℕ} 0 1 = cc in absurd (omega arith);
-    refused = λ c' p' e. let a : c ≡ c' = cc in let b : p ≡ p' = cc in rw (← a, ← b) said;
-  }
+  pub shows_refused : {why : Refused} → r ≡ Err why → ((ts : List Token) → HoldsOnly T ts → G ts ≡ refused why.refusal why.place) → ReadsAs least G fl T at old n new r
+  shows_refused is said = rw is (record { moved = tt; done = tt; refused = said })
 
   -- A refusal is handed up as it is.
-  pub hands_up : {least' : ℕ} {B : Type 0} {G' : List Token → Out ℕ B} {fl' : B → List ℕ} {at' : ℕ} {old' : List ℕ} {n' : ℕ} {new' : List ℕ} {c : Refusal} {p : ℕ}
-      → ReadsAs least' G' fl' T at' old' n' new' r → r ≡ Refused c p → ((ts : List Token) → HoldsOnly T ts → G' ts ≡ refused c p → G ts ≡ refused c p)
-      → ReadsAs least G fl T at old n new r
-  hands_up {c = c} {p = p} s e f = shows_refused e (λ ts h. f ts h (s.refused c p e ts h))
+  pub hands_up : {least' : ℕ} {B : Type 0} {G' : List Token → Out ℕ B} {fl' : B → List ℕ} {at' : ℕ} {old' : List ℕ} {n' : ℕ} {new' : List ℕ} {why : Refused}
+      → ReadsAs least' G' fl' T at' old' n' new' (Err why) → IsErrAnd r (λ x. x ≡ why)
+      → ((ts : List Token) → HoldsOnly T ts → G' ts ≡ refused why.refusal why.place → G ts ≡ refused why.refusal why.place) → ReadsAs least G fl T at old n new r
+  hands_up s up f = shows_refused (handed_up _ up) (λ ts h. f ts h (s.refused ts h))
+
+  -- So is that of a token of another kind than one that has to stand there.
+  pub shows_unexpected : {kind p q : ℕ} {why : Refused} → Expects kind T p q (Err why) → IsErrAnd r (λ x. x ≡ why)
+      → ((ts : List Token) → HoldsOnly T ts → (kind_at T p ≡ kind → ⊥) → G ts ≡ refused NotAllowed (place_at T p)) → ReadsAs least G fl T at old n new r
+  shows_unexpected x up none = let y = x.refused in shows_refused (handed_up _ up) (λ ts h. rw (y.1, y.2) (none ts h y.0))
+
+  -- What is made of what was read.
+  pub shows_made : {least' : ℕ} {B : Type 0} {G' : List Token → Out ℕ B} {fl' : B → List ℕ} {at' : ℕ} → ReadsAs least' G' fl' T at' old n new r → (at ≤ at') × (at + least ≤ at' + least')
+      → ((ts : List Token) → HoldsOnly T ts → (p q : ℕ) → Read (G' ts) fl' old n new p q → Read (G ts) fl old n new p q)
+      → ((ts : List Token) → HoldsOnly T ts → (c : Refusal) (p : ℕ) → G' ts ≡ refused c p → G ts ≡ refused c p) → ReadsAs least G fl T at old n new r
+  shows_made s le read fail = record {
+    moved = IfOk-weaker r _ _ (λ reached m. record { on = omega arith; within = m.within; grown = m.grown; few = omega arith }) s.moved;
+    done = IfOk-weaker r _ _ (λ reached d ts h. read ts h reached.count reached.size (d ts h)) s.done;
+    refused = IfErr-weaker r _ _ (λ why said ts h. fail ts h why.refusal why.place (said ts h)) s.refused;
+  }
 
   -- What is read the same way shows the same.
   pub shows_alike : {least' : ℕ} {G' : List Token → Out ℕ A} {at' : ℕ} → ReadsAs least' G' fl T at' old n new r → (at ≤ at') × (at + least ≤ at' + least') → ((ts : List Token) → HoldsOnly T ts → G ts ≡ G' ts)
       → ReadsAs least G fl T at old n new r
-  shows_alike s le alike = record {
-    moved = λ p q e. let m = s.moved p q e in record { on = omega arith; within = m.within; grown = m.grown; few = omega arith };
-    done = λ p q e ts h. let d = s.done p q e ts h in record { what = d.what; is = alike ts h ∙ d.is; wrote = d.wrote };
-    refused = λ c p e ts h. alike ts h ∙ s.refused c p e ts h;
-  }
+  shows_alike s le alike = shows_made s le (λ ts h p q d. record { what = d.what; is = alike ts h ∙ d.is; wrote = d.wrote }) (λ ts h c p said. alike ts h ∙ said)
 
   -- What is read on from an answer.
-  pub shows_then : {least' : ℕ} {B : Type 0} {G' : List Token → Out ℕ B} {fl' : B → List ℕ} {at' : ℕ} {old' : List ℕ} {n' : ℕ} {new' : List ℕ} {r' : Stage} {p q p' q' : ℕ}
-      → ReadsAs least' G' fl' T at' old' n' new' r' → r' ≡ Done p' q' → r ≡ Done p q → (Moved least' (token_count T) at' n' p' q' → Moved least (token_count T) at n p q)
-      → ((ts : List Token) → HoldsOnly T ts → Moved least' (token_count T) at' n' p' q' → Read (G' ts) fl' old' n' new' p' q' → Read (G ts) fl old n new p q)
+  pub shows_then : {least' : ℕ} {B : Type 0} {G' : List Token → Out ℕ B} {fl' : B → List ℕ} {at' : ℕ} {old' : List ℕ} {n' : ℕ} {new' : List ℕ} {before reached : Reached}
+      → ReadsAs least' G' fl' T at' old' n' new' (Ok before) → r ≡ Ok reached
+      → (Moved least' (token_count T) at' n' before.count before.size → Moved least (token_count T) at n reached.count reached.size)
+      → ((ts : List Token) → HoldsOnly T ts → Read (G' ts) fl' old' n' new' before.count before.size → Read (G ts) fl old n new reached.count reached.size)
       → ReadsAs least G fl T at old n new r
-  shows_then {p' = p'} {q' = q'} s e is move read = let m = s.moved p' q' e in shows_done is (move m) (λ ts h. read ts h m (s.done p' q' e ts h))
-
-  -- A token of another kind than one that has to stand there.
-  pub shows_unexpected : {kind p q x : ℕ} {c : Refusal} → Expects kind T p q r → r ≡ Refused c x
-      → ((ts : List Token) → HoldsOnly T ts → (kind_at T p ≡ kind → ⊥) → G ts ≡ refused NotAllowed (place_at T p)) → ReadsAs least G fl T at old n new r
-  shows_unexpected {x = x} {c = c} e is none = let y = e.refused c x is in shows_refused is (λ ts h. rw (y.1, y.2) (none ts h y.0))
+  shows_then s is move read = shows_done is (move s.moved) (λ ts h. read ts h (s.done ts h))
 
   -- What is read on by a token of one kind.
-  module _ {B : Type 0} {G' : List Token → Out ℕ B} {fl' : B → List ℕ} {r' : Stage} {p q kind : ℕ} (f : B → A) where
-    pub shows_expect : ((b : B) → fl (f b) ≡ fl' b) → ReadyToRead T at old n → ReadsAs least G' fl' T at old n new r' → r' ≡ Done p q
-        → Expects kind T p q r → 0 < kind
-        → ((ts : List Token) → HoldsOnly T ts → p < token_count T → (b : B) → G' ts ≡ ok b p → kind_at T p ≡ kind → G ts ≡ ok (f b) (p + 1))
-        → ((ts : List Token) → HoldsOnly T ts → p < token_count T → (b : B) → G' ts ≡ ok b p → (kind_at T p ≡ kind → ⊥) → G ts ≡ refused NotAllowed (place_at T p))
-        → ReadsAs least G fl T at old n new r
-    shows_expect words ready s e x more read none = let m = s.moved p q e in record {
-      moved = λ p' q' e'. let y = x.done p' q' e' in omega (arith, past ready.text m.within y.0 more);
-      done = λ p' q' e' ts h. let y = x.done p' q' e' in let d = s.done p q e ts h in
-          rw (y.1, y.2) (record { what = f d.what; is = read ts h m.within d.what d.is y.0; wrote = rw (words d.what) d.wrote });
-      refused = λ c p' e' ts h. let y = x.refused c p' e' in let d = s.done p q e ts h in rw (y.1, y.2) (none ts h m.within d.what d.is y.0);
-    }
+  pub shows_expect : {G' : List Token → Out ℕ A} {before : Reached} {kind : ℕ} → ReadyToRead T at old n → ReadsAs least G' fl T at old n new (Ok before)
+      → Expects kind T before.count before.size r → 0 < kind
+      → ((ts : List Token) → HoldsOnly T ts → (a : A) → G' ts ≡ ok a before.count → kind_at T before.count ≡ kind → G ts ≡ ok a (before.count + 1))
+      → ((ts : List Token) → HoldsOnly T ts → (a : A) → G' ts ≡ ok a before.count → (kind_at T before.count ≡ kind → ⊥) → G ts ≡ refused NotAllowed (place_at T before.count))
+      → ReadsAs least G fl T at old n new r
+  shows_expect ready s x more read none = record {
+    moved = IfOk-weaker r _ _ (λ reached y. omega (arith, s.moved, past ready.text s.moved.within y.0 more)) x.done;
+    done = IfOk-weaker r _ _ (λ reached y ts h. let d = s.done ts h in rw (y.1, y.2) (record { what = d.what; is = read ts h d.what d.is y.0; wrote = d.wrote })) x.done;
+    refused = IfErr-weaker r _ _ (λ why y ts h. let d = s.done ts h in rw (y.1, y.2) (none ts h d.what d.is y.0)) x.refused;
+  }
 
 -- One token and its unit.
 pub shows_leaf : {A : Type 0} {G : List Token → Out ℕ A} {fl : A → List ℕ} {T : List ℕ} {at : ℕ} {old : List ℕ} {n : ℕ} {new : List ℕ} {r : Stage} {tag a b : ℕ}

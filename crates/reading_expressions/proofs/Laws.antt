@@ -3,7 +3,7 @@ use Prim.Native.Nat.{ℕ, zero, suc, ◌+◌, ◌-◌, ◌≤◌, ◌<◌}
 use Prim.Native.String.{String}
 use mathlib.Core.Logic.{◌⊎◌, inl, inr}
 use mathlib.Core.Path.{◌≡◌, refl, sym, ◌∙◌}
-use mathlib.Core.Bool.{Bool, true, false, ◌||◌}
+use mathlib.Core.Bool.{Bool, true, false, ◌||◌, or-false}
 use mathlib.Core.List.{List, [], ◌∷◌, map}
 use mathlib.Core.Option.{Option, none, some}
 use native.Mathlib.Numerals.{add-one, sub-one}
@@ -96,6 +96,11 @@ sign_bounds k e = go (signed k e).sign (signed k e).is
 
 pub sign_above : (k : ℕ) → signs_at k ≡ true → 0 < k
 sign_above k e = (sign_bounds k e).0
+
+-- The unary operators by their kinds.
+pub signs_is : (k : ℕ) → signs_at k ≡ (eqb k 63 || (eqb k 68 || (eqb k 69 || false)))
+unfolding signs_at the numbered reserved signs words marks unary_table
+signs_is k = refl
 
 pub no_sign : (k : ℕ) → signs_at k ≡ false → (eqb k 63 ≡ false) × (eqb k 68 ≡ false) × (eqb k 69 ≡ false)
 unfolding signs_at the numbered reserved signs words marks unary_table
@@ -364,11 +369,21 @@ level_is {k} {level} e = record { is = go }
     go (suc (suc (suc (suc (suc (suc (suc zero))))))) lt = cc
     go (suc (suc (suc (suc (suc (suc (suc (suc l)))))))) lt = absurd (omega arith)
 
--- A kind that is none of `| ^ & == != < > <= >= + - *` has no level.
-pub level_none : {k : ℕ} → (k ≡ 66 → ⊥) → (k ≡ 67 → ⊥) → (k ≡ 65 → ⊥) → (k ≡ 48 → ⊥) → (k ≡ 49 → ⊥) → (k ≡ 60 → ⊥) → (k ≡ 61 → ⊥) → (k ≡ 50 → ⊥) → (k ≡ 51 → ⊥) → (k ≡ 62 → ⊥) → (k ≡ 63 → ⊥) → (k ≡ 64 → ⊥) → Level k 8
+-- A kind is found where a list of operators has it.
+some_or : (b : Bool) (o : Binary) (rest : Option Binary) → some? (when b then (λ _. some o) else λ _. rest) ≡ (b || some? rest)
+some_or true o rest = refl
+some_or false o rest = refl
+
+-- What joins at each level: `|`, `^`, `&`, `== !=`, `< > <= >=`, `+ -`, `*`, and nothing.
+joins_are : (k : ℕ) → map (λ l. joins_at l k) eight
+    ≡ eqb k 66 ∷ eqb k 67 ∷ eqb k 65 ∷ (eqb k 48 || eqb k 49) ∷ (eqb k 60 || (eqb k 61 || (eqb k 50 || eqb k 51))) ∷ (eqb k 62 || eqb k 63) ∷ eqb k 64 ∷ false ∷ []
 unfolding joins_at operator levels table the words marks numbered reserved signs
-level_none {k} a b c d e f g h i j m o =
-    level_is (rw (ne_eqb k 66 a, ne_eqb k 67 b, ne_eqb k 65 c, ne_eqb k 48 d, ne_eqb k 49 e, ne_eqb k 60 f, ne_eqb k 61 g, ne_eqb k 50 h, ne_eqb k 51 i, ne_eqb k 62 j, ne_eqb k 63 m, ne_eqb k 64 o))
+joins_are k = simp (some_or, or-false)
+
+-- A kind's level is that of the list that has it, and 8 where none does.
+pub level_by : {k level : ℕ} → eqb k 66 ≡ eqb 0 level → eqb k 67 ≡ eqb 1 level → eqb k 65 ≡ eqb 2 level → (eqb k 48 || eqb k 49) ≡ eqb 3 level
+    → (eqb k 60 || (eqb k 61 || (eqb k 50 || eqb k 51))) ≡ eqb 4 level → (eqb k 62 || eqb k 63) ≡ eqb 5 level → eqb k 64 ≡ eqb 6 level → eqb 7 level ≡ false → Level k level
+level_by {k} a b c d e f g h = level_is (rw (joins_are k, a, b, c, d, e, f, g, h))
 
 -- Level 7 has no operators.
 pub seven_none : (k : ℕ) → joins_at 7 k ≡ false

@@ -1,7 +1,6 @@
 -- What the functions that read expressions ask, and what their answers say.
-use Rattle.std.specs.Prelude.{ℕ, ◌+◌, ◌*◌, ◌-◌, ◌/◌, ◌≤◌, ◌<◌, ◌≡◌, Bool, true, false, List, [], ◌∷◌, ◌++◌, map, eqb, length, get_or, take, drop}
+use Rattle.std.specs.Prelude.{ℕ, ◌+◌, ◌*◌, ◌-◌, ◌/◌, ◌≤◌, ◌<◌, ◌≡◌, Bool, true, false, List, [], ◌∷◌, ◌++◌, map, eqb, length, get_or, take, drop, IfOk, IfErr}
 use Rattle.std.proofs.Math.Option.{Option}
-use Rattle.meaning.specs.declared.Refusal.{Refusal}
 use Rattle.meaning.specs.declared.Refusal.TheVariants.{NotAllowed}
 use Rattle.meaning.specs.Codes.{Out, ok, refused, option, ◌among◌, text_limit}
 use Rattle.meaning.specs.Tokens.{Token, end_at, the}
@@ -10,14 +9,14 @@ use Rattle.meaning.specs.Tree.{unary_table, levels, Expr}
 use Rattle.meaning.specs.Reading.{Reads, operator, binaries, unaries, parenthesised, expression}
 use Rattle.layout.specs.Tokens.{token_words, kind_at, place_at, Holds}
 use Rattle.layout.specs.Words.{unit_words, unit, flat}
-use Rattle.layout.specs.declared.Stage.{Stage}
-use Rattle.layout.specs.declared.Stage.TheVariants.{Done, Refused}
+use Rattle.layout.specs.Stage.{Stage}
+use Rattle.std.specs.declared.result.Result.TheVariants.{Ok, Err}
 
--- What an answer is among the definitions' outcomes: with `Done`, what was read and where reading goes on; with `Refused`, the
+-- What an answer is among the definitions' outcomes: with `Ok`, what was read and where reading goes on; with `Err`, the
 -- refusal and its place.
 abbrev pub outcome : {A : Type 0} → Stage → A → Out ℕ A
-outcome (Done p q) what = ok what p
-outcome (Refused c p) what = refused c p
+outcome (Ok reached) what = ok what reached.count
+outcome (Err why) what = refused why.refusal why.place
 
 -- The token at a position.
 abbrev pub token_at : List Token → ℕ → Token
@@ -52,13 +51,13 @@ pub record Appends (a : List ℕ) (n : ℕ) (b : List ℕ) (m : ℕ) (xs : List 
 
 -- What `node` answers: the tree has one unit more, and reading goes on at `next`.
 pub record PutsNode (tag a b next : ℕ) (old : List ℕ) (n : ℕ) (new : List ℕ) (r : Stage) : Type 0 where
-  pub is : r ≡ Done next (n + unit_words)
+  pub is : r ≡ Ok (record { count = next; size = n + unit_words })
   pub wrote : Appends old n new (n + unit_words) (unit tag a b)
 
 -- What `expect` answers at a token where one of the kind `kind` has to stand.
 pub record Expects (kind : ℕ) (tokens : List ℕ) (at size : ℕ) (r : Stage) : Type 0 where
-  pub done : (p q : ℕ) → r ≡ Done p q → (kind_at tokens at ≡ kind) × (p ≡ at + 1) × (q ≡ size)
-  pub refused : (c : Refusal) (p : ℕ) → r ≡ Refused c p → (kind_at tokens at ≡ kind → ⊥) × (c ≡ NotAllowed) × (p ≡ place_at tokens at)
+  pub done : IfOk r (λ reached. (kind_at tokens at ≡ kind) × (reached.count ≡ at + 1) × (reached.size ≡ size))
+  pub refused : IfErr r (λ why. (kind_at tokens at ≡ kind → ⊥) × (why.refusal ≡ NotAllowed) × (why.place ≡ place_at tokens at))
 
 -- Of `count` tokens reading went on from `at` to p, by `least` or more, and the tree from n to q words, by a unit for each token or
 -- fewer.
@@ -74,12 +73,12 @@ pub record Read {A : Type 0} (o : Out ℕ A) (fl : A → List ℕ) (old : List �
   pub is : o ≡ ok what p
   pub wrote : Appends old n new q (fl what)
 
--- What an answer r says, whatever tokens ts the buffer holds: `Done`, that the definition G gives something, of which the tree now
--- has the flat form; `Refused`, that G refuses so.
+-- What an answer r says, whatever tokens ts the buffer holds: `Ok`, that the definition G gives something, of which the tree now
+-- has the flat form; `Err`, that G refuses so.
 pub record ReadsAs (least : ℕ) {A : Type 0} (G : List Token → Out ℕ A) (fl : A → List ℕ) (tokens : List ℕ) (at : ℕ) (old : List ℕ) (n : ℕ) (new : List ℕ) (r : Stage) : Type 0 where
-  pub moved : (p q : ℕ) → r ≡ Done p q → Moved least (token_count tokens) at n p q
-  pub done : (p q : ℕ) → r ≡ Done p q → (ts : List Token) → HoldsOnly tokens ts → Read (G ts) fl old n new p q
-  pub refused : (c : Refusal) (p : ℕ) → r ≡ Refused c p → (ts : List Token) → HoldsOnly tokens ts → G ts ≡ refused c p
+  pub moved : IfOk r (λ reached. Moved least (token_count tokens) at n reached.count reached.size)
+  pub done : IfOk r (λ reached. (ts : List Token) → HoldsOnly tokens ts → Read (G ts) fl old n new reached.count reached.size)
+  pub refused : IfErr r (λ why. (ts : List Token) → HoldsOnly tokens ts → G ts ≡ refused why.refusal why.place)
 
 -- The levels of binary operators are numbered from 0, the loosest. Behind them come the level of operands, which has no operators, and
 -- that of a token that is no binary operator.

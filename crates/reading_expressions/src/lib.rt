@@ -1,17 +1,21 @@
 // Reads expressions: tokens in a lent buffer to words in a lent tree.
+// No struct of the tokens and the tree, which go through every function: of one that holds a `&mut`, each would have to say besides that it
+// still holds the same words, and as many (docs/DESIGN-PASS.md).
 #![tactic(auto)]
 
 ghost use Rattle.std.specs.Prelude.{◌≡◌, ◌+◌, ◌*◌, ◌≤◌, true, false, length};
+ghost use Rattle.std.specs.declared.result.Result.TheVariants.{Err};
 ghost use Rattle.meaning.specs.Tokens.{the};
 ghost use Rattle.layout.specs.Tokens.{token_words, kind_at, place_at};
 ghost use Rattle.layout.specs.Words.{unit_words, unit};
 ghost use Rattle.reading_expressions.specs.Contract.{ReadyToRead, Appends, Expects, PutsNode, Level, operands_level, signs_at};
 ghost use Rattle.reading_expressions.specs.Contract.{ReadsExpression, ReadsLevel, ReadsOperand, ReadsParenthesised};
 
-use layout::{Stage, UNIT, put_unit, tag, token};
+use layout::{Reached, Refused, Stage, UNIT, put_unit, tag, token};
 use meaning::Refusal;
 
 // The levels of binary operators, loosest first; behind them the level of operands, and that of a token that is no binary operator.
+// No enum: levels are counted, and the next tighter one is one more; `Level` and `ReadsLevel` speak of their numbers.
 const LEVEL_OR: u32 = 0;
 
 const LEVEL_XOR: u32 = 1;
@@ -36,12 +40,12 @@ const LOOSEST: u32 = LEVEL_OR;
 // A refusal at the token `at`.
 pub fn refuse(refusal: Refusal, tokens: &[u32], at: usize) -> Stage
     requires { at * token_words + token_words ≤ length tokens.now }
-    ensures { result ≡ Stage.Refused refusal (place_at tokens.now at) }
+    ensures { result ≡ Err (record { refusal = refusal; place = place_at tokens.now at }) }
 {
-    Stage::Refused {
+    Err(Refused {
         refusal,
         place: token::place(tokens, at) as usize,
-    }
+    })
 }
 
 // Goes past the token `at`, which has to be of this kind.
@@ -53,7 +57,7 @@ pub fn expect(kind: u32, tokens: &[u32], at: usize, size: usize) -> Stage
     if token::kind(tokens, at) != kind {
         return refuse(Refusal::NotAllowed, tokens, at);
     }
-    Stage::Done { count: next, size }
+    Ok(Reached { count: next, size })
 }
 
 // Appends a unit to a tree of `size` words; reading goes on at `next`.
@@ -62,10 +66,10 @@ pub fn node(tree: &mut [u32], size: usize, tag: u32, a: u32, b: u32, next: usize
     ensures { PutsNode tag a b next tree.old size tree.new result }
 {
     put_unit(tree, size, tag, a, b);
-    Stage::Done {
+    Ok(Reached {
         count: next,
         size: size + UNIT,
-    }
+    })
 }
 
 // Appends the unit of the operator at `at`, which has this tag, and answers the size.
@@ -78,6 +82,7 @@ fn put_operator(tag: u32, tokens: &[u32], at: usize, tree: &mut [u32], size: usi
 }
 
 // The level of a binary operator of this kind, loosest first.
+#[tactic(auto, using(crate::proofs::Laws::level_by, std::proofs::lemmas::Grind::common_steps))]
 fn level_of(kind: u32) -> u32
     ensures { Level kind result }
 {
@@ -85,24 +90,20 @@ fn level_of(kind: u32) -> u32
         token::OR => LEVEL_OR,
         token::XOR => LEVEL_XOR,
         token::AND => LEVEL_AND,
-        token::EQUAL => LEVEL_EQUALITY,
-        token::UNEQUAL => LEVEL_EQUALITY,
-        token::BELOW => LEVEL_ORDER,
-        token::ABOVE => LEVEL_ORDER,
-        token::AT_MOST => LEVEL_ORDER,
-        token::AT_LEAST => LEVEL_ORDER,
-        token::PLUS => LEVEL_SUM,
-        token::MINUS => LEVEL_SUM,
+        token::EQUAL | token::UNEQUAL => LEVEL_EQUALITY,
+        token::BELOW | token::ABOVE | token::AT_MOST | token::AT_LEAST => LEVEL_ORDER,
+        token::PLUS | token::MINUS => LEVEL_SUM,
         token::TIMES => LEVEL_PRODUCT,
         _ => LEVEL_NONE,
     }
 }
 
 // Is a token of this kind a unary operator?
+#[tactic(auto, using(crate::proofs::Laws::signs_is))]
 fn signs(kind: u32) -> bool
     ensures { result ≡ signs_at kind }
 {
-    (kind == token::MINUS) | (kind == token::INVERSE) | (kind == token::NOT)
+    matches!(kind, token::MINUS | token::INVERSE | token::NOT)
 }
 
 // Reads an operand of one token, which opens no level. The tag of a number or of a float's constant is its token's kind.
@@ -158,15 +159,12 @@ fn unary(tokens: &[u32], at: usize, room: u32, tree: &mut [u32], size: usize) ->
         return refuse(Refusal::TooDeep, tokens, at);
     }
     let sign = tag::UNARY + token::kind(tokens, at);
-    let inner = operand(tokens, at + 1, room - 1, tree, size);
-    let Stage::Done { count: p, size: q } = inner else {
-        return inner;
-    };
-    let grown = put_operator(sign, tokens, at, tree, q);
-    Stage::Done {
-        count: p,
+    let inner = operand(tokens, at + 1, room - 1, tree, size)?;
+    let grown = put_operator(sign, tokens, at, tree, inner.size);
+    Ok(Reached {
+        count: inner.count,
         size: grown,
-    }
+    })
 }
 
 // Reads an expression and the `)` after it; the token at `at` is its `(`, which opens a level.
@@ -178,11 +176,8 @@ pub fn parenthesised(tokens: &[u32], at: usize, room: u32, tree: &mut [u32], siz
     if room == 0 {
         return refuse(Refusal::TooDeep, tokens, at);
     }
-    let inner = binary(LOOSEST, tokens, at + 1, room - 1, tree, size);
-    let Stage::Done { count: p, size: q } = inner else {
-        return inner;
-    };
-    expect(token::CLOSE, tokens, p, q)
+    let inner = binary(LOOSEST, tokens, at + 1, room - 1, tree, size)?;
+    expect(token::CLOSE, tokens, inner.count, inner.size)
 }
 
 // Reads operands joined by operators of the level or of tighter ones. What is read so far is a part of what the level `last` reads,
@@ -193,33 +188,20 @@ fn binary(level: u32, tokens: &[u32], at: usize, room: u32, tree: &mut [u32], si
     requires level_le_operands_level { level ≤ operands_level }
     ensures { ReadsLevel level room tokens.now at tree.old size tree.new result }
 {
-    let first = operand(tokens, at, room, tree, size);
-    let Stage::Done {
-        count: p0,
-        size: q0,
-    } = first
-    else {
-        return first;
-    };
-    let mut p = p0;
-    let mut q = q0;
+    let mut left = operand(tokens, at, room, tree, size)?;
     let mut last = LEVEL_OPERAND;
+    // No `for`: where the next operator stands is known when the operand before it is read.
     loop {
-        let kind = token::kind(tokens, p);
+        let kind = token::kind(tokens, left.count);
         let next = level_of(kind);
-        if (next < level) | (last < next) {
-            return Stage::Done { count: p, size: q };
+        if next < level || last < next {
+            return Ok(left);
         }
-        let right = binary(next + 1, tokens, p + 1, room, tree, q);
-        let Stage::Done {
-            count: p1,
-            size: q1,
-        } = right
-        else {
-            return right;
+        let right = binary(next + 1, tokens, left.count + 1, room, tree, left.size)?;
+        left = Reached {
+            count: right.count,
+            size: put_operator(kind, tokens, left.count, tree, right.size),
         };
-        q = put_operator(kind, tokens, p, tree, q1);
-        p = p1;
         last = next;
     }
 }

@@ -6,20 +6,18 @@ use Prim.Native.Nat.{ℕ, zero, suc, ◌+◌, ◌≤◌, ◌<◌}
 use native.Mathlib.Omega.{arith}
 use borrow.Author.Rules.{part_to_end}
 use borrow.Author.Tests.{eq-eqb, ne_eqb, leb-true, le-leb, lt-leb}
-use denote.Enum.Declared.{tag_of}
-use types.Run.{OneOf, miss}
 use lib.Dec.{eqb, leb}
 use lib.ListN.{length, get_or, take, drop}
 use lib.Seq.{drop-nil, drop-drop}
 use Rattle.meaning.specs.Codes.{number_limit, float_limit}
 use Rattle.meaning.specs.Floats.{whole_float}
-use Rattle.meaning.specs.Tokens.{Piece, bytes, digit, run_of, starts, equal, decimal, good_number, digits, constant, numeral, the, numbered, words, marks, reserved, signs}
-use Rattle.tokens.specs.declared.Lexeme.{Lexeme}
-use Rattle.tokens.specs.declared.Lexeme.TheVariants.{Token, Bad}
-use Rattle.tokens.specs.Lexing.{numeral_of, constant_of, lexeme}
-use Rattle.laws.proofs.Tests.{and_l, and_r, and-false, by_if}
+use Rattle.meaning.specs.Tokens.{bytes, digit, run_of, starts, equal, decimal, good_number, digits, constant, numeral, the, numbered, words, marks, reserved, signs}
+use Rattle.std.specs.declared.option.Option.TheVariants.{Some, None}
+use Rattle.tokens.specs.declared.Lexeme.TheVariants.{Token}
+use Rattle.tokens.specs.Lexing.{number_in, numeral_of, constant_of, lexeme}
+use Rattle.laws.proofs.Tests.{and_l, and_r, and-false}
 use Rattle.laws.proofs.Bytes.{run_length, run_take}
-use Rattle.tokens.specs.contracts.Lexeme.{the_type}
+use Rattle.tokens.proofs.Numbers.{number-told, no_number}
 use Rattle.tokens.proofs.Signs.{eqb_swap}
 use Rattle.tokens.proofs.SoFar.{rest}
 
@@ -66,8 +64,9 @@ one_nought (c ∷ t) e f = rw (e, f) (go (run_of digit (c ∷ t)) (run_length di
     go zero is = refl
     go (suc n) is = rw (is, eqb_swap (suc n) 1, eqb_swap c nought, and-true (eqb nought c))
 
--- The whole number of a constant is a number, with the same rule of the leading zero and a lower limit.
-module _ (s : List ℕ) where
+-- A constant with the digits s before its point and t behind it: its whole number is a number, with the same rule of the leading zero and a
+-- lower limit.
+module _ (s t : List ℕ) (at : ℕ) where
   -- No leading zero, unless it is `0`.
   abbrev plain : Bool
   plain = eqb (length s) 1 || not (eqb (get_or s 0 0) nought)
@@ -83,37 +82,25 @@ module _ (s : List ℕ) where
           absurd (false≢true (sym h ∙ good))
       go false e = refl
 
-  -- Digits that are no number are none of a constant.
-  pub no_number : {r : Lexeme} → r ≡ lexeme 0 (digits s) → OneOf (0 ∷ 2 ∷ []) (tag_of the_type r) → good_number float_limit s ≡ false
-  unfolding digits lexeme
-  no_number {r} e h =
-      by_if (λ (q : Piece). r ≡ lexeme 0 q → good_number float_limit s ≡ false) (good_number number_limit s) _ _
-      (λ _ is. absurd (miss (0 ∷ 2 ∷ []) 1 tt (rw is at h))) (λ wrong _. lower_limit wrong) e
-
-  -- Digits that are a number are worth it.
-  number-told : {k v n : ℕ} → Token k v n ≡ lexeme 0 (digits s) → (v ≡ decimal 0 s) × (plain ≡ true)
-  unfolding digits good_number lexeme the numbered words marks reserved signs
-  number-told {k} {v} {n} e =
-      by_if (λ (q : Piece). Token k v n ≡ lexeme 0 q → (v ≡ decimal 0 s) × (plain ≡ true)) (good_number number_limit s) _ _
-      (λ good is. (cc, and_r (leb (decimal 0 s) number_limit) plain good)) (λ _ is. let z : ◌≡◌ {A = ℕ} 0 1 = cc in absurd (omega arith)) e
-
--- A constant with the digits s before its point and t behind it.
-module _ (s t : List ℕ) (at : ℕ) where
-  pub constant_more : equal (bytes "0") t ≡ false → Bad ≡ lexeme at (constant s t)
+  pub constant_more : equal (bytes "0") t ≡ false → None ≡ lexeme at (constant s t)
   unfolding constant lexeme
   constant_more h = rw (h, and-false (good_number float_limit s))
 
-  pub constant_wrong : good_number float_limit s ≡ false → Bad ≡ lexeme at (constant s t)
+  wrong : good_number float_limit s ≡ false → None ≡ lexeme at (constant s t)
   unfolding constant lexeme
-  constant_wrong h = rw h
+  wrong h = rw h
 
-  pub constant_large : {k v n : ℕ} → Token k v n ≡ lexeme 0 (digits s) → float_limit < v → Bad ≡ lexeme at (constant s t)
+  pub constant_wrong : None ≡ number_in s → None ≡ lexeme at (constant s t)
+  constant_wrong e = wrong (lower_limit (no_number s e))
+
+  pub constant_large : {v : ℕ} → Some v ≡ number_in s → float_limit < v → None ≡ lexeme at (constant s t)
   unfolding good_number
-  constant_large e lt = constant_wrong (rw (lt-leb (decimal 0 s) float_limit (omega (arith, (number-told s e).0))))
+  constant_large e lt = wrong (rw (lt-leb (decimal 0 s) float_limit (omega (arith, (number-told s e).1))))
 
-  pub constant_good : {k v n p m : ℕ} → Token k v n ≡ lexeme 0 (digits s) → v ≤ float_limit → equal (bytes "0") t ≡ true → p ≡ whole_float v → m ≡ length s + 2
-      → Token 3 p m ≡ lexeme at (constant s t)
+  pub constant_good : {v p m : ℕ} → Some v ≡ number_in s → v ≤ float_limit → equal (bytes "0") t ≡ true → p ≡ whole_float v → m ≡ length s + 2
+      → Some (Token 3 p m) ≡ lexeme at (constant s t)
   unfolding constant good_number lexeme the numbered words marks reserved signs
-  constant_good {k} {v} {n} {p} {m} e le z is long =
+  constant_good {v} {p} {m} e le z is long =
       let told = number-told s e in
-      rw (← told.0, le-leb v float_limit le, told.1, z, is, long)
+      let good = and_r (leb (decimal 0 s) number_limit) plain told.0 in
+      rw (← told.1, le-leb v float_limit le, good, z, is, long)

@@ -9,14 +9,15 @@ use native.Mathlib.Omega.{arith}
 use lib.Dec.{eqb}
 use lib.ListN.{length, get_or}
 use borrow.Author.Tests.{eq-eqb, ne_eqb, eqb-true, eqb-false, not-true}
-use Rattle.meaning.specs.Codes.{when◌then◌else◌, lookup}
+use Rattle.meaning.specs.Codes.{when◌then◌else◌, option, lookup}
 use Rattle.meaning.specs.Tokens.{Piece, bad, token, bytes, signs, numbered, marks, starts, sign}
-use Rattle.tokens.specs.declared.Lexeme.TheVariants.{Token, Bad}
+use Rattle.std.specs.declared.option.Option.TheVariants.{Some, None}
+use Rattle.tokens.specs.declared.Lexeme.TheVariants.{Token}
 use Rattle.tokens.specs.Lexing.{blank, paired, sign_kind, lexeme}
-use Rattle.laws.proofs.The.{the_end, the_name}
+use Rattle.laws.proofs.The.{the_name}
 use Rattle.laws.proofs.Tests.{and_l, and_r, or_cases}
 use Rattle.laws.proofs.Pieces.{lookup_from}
-use Rattle.tokens.proofs.Walking.{told_some, told_none, every}
+use Rattle.tokens.proofs.Walking.{every}
 
 -- One byte, or two of which the second is not 0.
 abbrev small : List ℕ → Bool
@@ -207,35 +208,43 @@ found_above : (b c n : ℕ) → with b c marks ≡ some n → first_sign ≤ n
 unfolding marks
 found_above b c n = lookup_from (λ r. paired (bytes r) b c) signs first_sign
 
-kind_found : (b c : ℕ) {k : ℕ} → k ≡ sign_kind b c → (k ≡ 0 → ⊥) → with b c marks ≡ some k
+kind_found : (b c : ℕ) {k : ℕ} → Some k ≡ sign_kind b c → with b c marks ≡ some k
 unfolding sign_kind
-kind_found b c is = told_some (with b c marks) (is ∙ rw the_end)
+kind_found b c = told (with b c marks)
+  where
+    told : {k : ℕ} (o : Option ℕ) → Some k ≡ option None Some o → o ≡ some k
+    told none e = cc
+    told (some n) e = cc
 
-kind_none : (b c : ℕ) → 0 ≡ sign_kind b c → with b c marks ≡ none
+kind_none : (b c : ℕ) → None ≡ sign_kind b c → with b c marks ≡ none
 unfolding sign_kind
-kind_none b c is = told_none (with b c marks) (is ∙ rw the_end) (λ n h. let le = found_above b c n h in omega arith)
+kind_none b c = told (with b c marks)
+  where
+    told : (o : Option ℕ) → None ≡ option None Some o → o ≡ none
+    told none e = refl
+    told (some n) e = cc
 
-sign-lexeme : (at k n : ℕ) → first_sign ≤ k → Token k 0 n ≡ lexeme at (token k 0 [] n)
+sign-lexeme : (at k n : ℕ) → first_sign ≤ k → Some (Token k 0 n) ≡ lexeme at (token k 0 [] n)
 unfolding lexeme
 sign-lexeme at k n le = rw (the_name, ne_eqb k 2 (λ e. omega arith))
 
 module _ (b c at : ℕ) where
-  pub long_sign : {k : ℕ} → c ≡ equals → k ≡ sign_kind b equals → (k ≡ 0 → ⊥) → Token k 0 2 ≡ lexeme at (sign marks (b ∷ c ∷ []))
+  pub long_sign : {k : ℕ} → c ≡ equals → Some k ≡ sign_kind b equals → Some (Token k 0 2) ≡ lexeme at (sign marks (b ∷ c ∷ []))
   unfolding marks
-  long_sign {k} is kind ne =
-      let found = kind_found b equals kind ne in
+  long_sign {k} is kind =
+      let found = kind_found b equals kind in
       sign-lexeme at k 2 (found_above b equals k found) ∙ rw (is, long_first b signs first_sign k signs_ordered found)
 
-  module _ (none_long : c ≡ equals → 0 ≡ sign_kind b equals) where
+  module _ (none_long : c ≡ equals → None ≡ sign_kind b equals) where
     one_byte : sign marks (b ∷ c ∷ []) ≡ piece_of 1 (with b blank marks)
     unfolding marks
     one_byte = short_next b c signs first_sign signs_ordered (λ e. kind_none b equals (none_long e))
 
-    pub short_sign : {k : ℕ} → k ≡ sign_kind b blank → (k ≡ 0 → ⊥) → Token k 0 1 ≡ lexeme at (sign marks (b ∷ c ∷ []))
-    short_sign {k} kind ne =
-        let found = kind_found b blank kind ne in
+    pub short_sign : {k : ℕ} → Some k ≡ sign_kind b blank → Some (Token k 0 1) ≡ lexeme at (sign marks (b ∷ c ∷ []))
+    short_sign {k} kind =
+        let found = kind_found b blank kind in
         sign-lexeme at k 1 (found_above b blank k found) ∙ rw (one_byte, found)
 
-    pub no_sign : 0 ≡ sign_kind b blank → Bad ≡ lexeme at (sign marks (b ∷ c ∷ []))
+    pub no_sign : None ≡ sign_kind b blank → None ≡ lexeme at (sign marks (b ∷ c ∷ []))
     unfolding lexeme
     no_sign kind = rw (one_byte, kind_none b blank kind)

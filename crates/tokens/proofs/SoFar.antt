@@ -13,8 +13,9 @@ use Rattle.meaning.specs.Codes.{ok, when◌then◌else◌, text_limit}
 use Rattle.meaning.specs.Tokens.{Token, Piece, over, bad, gap, token, piece, end_at, the, tokens, lexed}
 use Rattle.layout.specs.Words.{unit}
 use Rattle.layout.specs.Tokens.{token_words, TokenRow, Holds}
-use Rattle.tokens.specs.declared.Lexeme.TheVariants.{Gap, Token as OneToken, Bad}
-use Rattle.layout.specs.declared.Stage.TheVariants.{Done, Refused}
+use Rattle.tokens.specs.declared.Lexeme.TheVariants.{Gap, Token as OneToken}
+use Rattle.std.specs.declared.option.Option.TheVariants.{Some, None}
+use Rattle.std.specs.declared.result.Result.TheVariants.{Ok, Err}
 use Rattle.tokens.specs.Lexing.{lexeme, TokenRoom, Lexes}
 use Rattle.laws.proofs.The.{the_end, number_not_end, name_not_end, number_not_name, float_number_not_end, float_number_not_name}
 use Rattle.laws.proofs.Pieces.{Taken, Fair, nothing, between, taken, fair}
@@ -33,14 +34,14 @@ record TokenTold (p k w n : ℕ) (q : Piece) : Type 0 where
   beside : w ≡ (when eqb k (the "name") then (λ _. p + n) else λ _. value)
 
 -- From what the code answers to the piece that stands there.
-told_gap : (p n : ℕ) (q : Piece) → Gap n ≡ lexeme p q → q ≡ gap n
+told_gap : (p n : ℕ) (q : Piece) → Some (Gap n) ≡ lexeme p q → q ≡ gap n
 unfolding lexeme
 told_gap p n over e = cc
 told_gap p n bad e = cc
 told_gap p n (gap m) e = cc
 told_gap p n (token k v x m) e = cc
 
-told-token : (p k w n : ℕ) (q : Piece) → OneToken k w n ≡ lexeme p q → TokenTold p k w n q
+told-token : (p k w n : ℕ) (q : Piece) → Some (OneToken k w n) ≡ lexeme p q → TokenTold p k w n q
 unfolding lexeme
 told-token p k w n over e = let z : ◌≡◌ {A = ℕ} 0 1 = cc in absurd (omega arith)
 told-token p k w n bad e = let z : ◌≡◌ {A = ℕ} 0 1 = cc in absurd (omega arith)
@@ -51,7 +52,7 @@ told-token p k w n (token i v x m) e =
     let c : w ≡ (when eqb i (the "name") then (λ _. p + m) else λ _. v) = cc in
     record { value = v; bytes = x; is = rw (a, b); beside = rw (a, b) c }
 
-told_bad : (p : ℕ) (s : List ℕ) (q : Piece) → Fair s q → 0 < length s → Bad ≡ lexeme p q → q ≡ bad
+told_bad : (p : ℕ) (s : List ℕ) (q : Piece) → Fair s q → 0 < length s → None ≡ lexeme p q → q ≡ bad
 unfolding lexeme
 told_bad p s over (nothing z) lt e = absurd (omega arith)
 told_bad p s bad f lt e = refl
@@ -135,13 +136,13 @@ module _ {text buffer₀ buffer : List ℕ} {at n : ℕ} (g : TokensSoFar text b
       → tokens text ≡ tokens_from text (suc (pred g.turns)) l (at + m)
   step l m e = let more : g.turns ≡ suc (pred g.turns) = omega arith in g.is ∙ e ∙ ap (λ k. tokens_from text k l (at + m)) more
 
-  gap_at : {m : ℕ} → Gap m ≡ lexeme at (piece (rest text at)) → piece (drop at text) ≡ gap m
+  gap_at : {m : ℕ} → Some (Gap m) ≡ lexeme at (piece (rest text at)) → piece (drop at text) ≡ gap m
   gap_at {m} h = told_gap at m (piece (drop at text)) (rw (part_to_end text at) at h)
 
-  pub gap_moves : {m : ℕ} → Gap m ≡ lexeme at (piece (rest text at)) → (0 < m) × (at + m ≤ length text)
+  pub gap_moves : {m : ℕ} → Some (Gap m) ≡ lexeme at (piece (rest text at)) → (0 < m) × (at + m ≤ length text)
   gap_moves h = let f = fair_gap (rw (gap_at h) at (fair (drop at text))) in (f.0, inside f.1)
 
-  pub after_gap : {m : ℕ} → Gap m ≡ lexeme at (piece (rest text at)) → TokensSoFar text buffer₀ buffer (at + m) n
+  pub after_gap : {m : ℕ} → Some (Gap m) ≡ lexeme at (piece (rest text at)) → TokensSoFar text buffer₀ buffer (at + m) n
   after_gap {m} h =
       let moves = gap_moves h in
       record {
@@ -156,16 +157,16 @@ module _ {text buffer₀ buffer : List ℕ} {at n : ℕ} (g : TokensSoFar text b
         holds = g.holds;
       }
 
-  token_at : {k w m : ℕ} → OneToken k w m ≡ lexeme at (piece (rest text at)) → TokenTold at k w m (piece (drop at text))
+  token_at : {k w m : ℕ} → Some (OneToken k w m) ≡ lexeme at (piece (rest text at)) → TokenTold at k w m (piece (drop at text))
   token_at {k} {w} {m} h = told-token at k w m (piece (drop at text)) (rw (part_to_end text at) at h)
 
   token_taken : {k w m : ℕ} (t : TokenTold at k w m (piece (drop at text))) → Taken (drop at text) k t.value t.bytes m
   token_taken t = fair_token (rw t.is at (fair (drop at text)))
 
-  pub token_moves : {k w m : ℕ} → OneToken k w m ≡ lexeme at (piece (rest text at)) → (0 < m) × (at + m ≤ length text)
+  pub token_moves : {k w m : ℕ} → Some (OneToken k w m) ≡ lexeme at (piece (rest text at)) → (0 < m) × (at + m ≤ length text)
   token_moves h = let t = token_taken (token_at h) in (t.some_bytes, inside t.within)
 
-  pub after-token : {k w m : ℕ} {new : List ℕ} → OneToken k w m ≡ lexeme at (piece (rest text at)) → length text ≤ text_limit → TokenRoom text buffer₀
+  pub after-token : {k w m : ℕ} {new : List ℕ} → Some (OneToken k w m) ≡ lexeme at (piece (rest text at)) → length text ≤ text_limit → TokenRoom text buffer₀
       → new ≡ sets buffer (n * token_words) (unit k at w) → TokensSoFar text buffer₀ new (at + m) (n + 1)
   after-token {k} {w} {m} h short room in_new =
       let moves = token_moves h in
@@ -183,7 +184,7 @@ module _ {text buffer₀ buffer : List ℕ} {at n : ℕ} (g : TokensSoFar text b
         holds = rw in_new (holds_more n g.holds (token_row (token_taken told) told.beside) g.count (omega arith));
       }
 
-  pub bad_there : Bad ≡ lexeme at (piece (rest text at)) → length text ≤ text_limit → Lexes text (Refused BadBytes at) buffer
+  pub bad_there : None ≡ lexeme at (piece (rest text at)) → length text ≤ text_limit → Lexes text (Err (record { refusal = BadBytes; place = at })) buffer
   bad_there h short =
       let some_bytes : 0 < length (drop at text) = omega (arith, length-drop at text) in
       let wrong = told_bad at (drop at text) (piece (drop at text)) (fair (drop at text)) some_bytes (rw (part_to_end text at) at h) in
@@ -199,7 +200,7 @@ module _ {text buffer₀ buffer : List ℕ} {at n : ℕ} (g : TokensSoFar text b
 
 -- The end of the text, and a text that is too long.
 pub all_so_far : {text buffer₀ buffer new : List ℕ} {at n : ℕ} → TokensSoFar text buffer₀ buffer at n → length text ≤ at → length text ≤ text_limit → TokenRoom text buffer₀
-    → new ≡ sets buffer (n * token_words) (unit 0 at 0) → Lexes text (Done (n + 1) (n * token_words + token_words)) new
+    → new ≡ sets buffer (n * token_words) (unit 0 at 0) → Lexes text (Ok (record { count = n + 1; size = n * token_words + token_words })) new
 all_so_far {text} {at = at} {n} g le short room in_new =
     let last : at ≡ length text = omega arith in
     let long = length-append g.so_far (end_at at ∷ []) in
@@ -213,7 +214,7 @@ all_so_far {text} {at = at} {n} g le short room in_new =
       holds = rw in_new (holds_more n g.holds (end_row at) g.count (omega arith));
     }
 
-pub too_long : (text buffer : List ℕ) → text_limit < length text → Lexes text (Refused TextTooLong 0) buffer
+pub too_long : (text buffer : List ℕ) → text_limit < length text → Lexes text (Err (record { refusal = TextTooLong; place = 0 })) buffer
 unfolding lexed
 too_long text buffer lt =
     record { tokens = []; is = rw (lt-leb (length text) text_limit lt); count = refl; size = refl; few = omega arith; near = omega arith; holds = holds_none buffer }

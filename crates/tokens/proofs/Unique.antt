@@ -6,8 +6,8 @@ use native.Mathlib.Omega.{arith}
 use lib.ListN.{length}
 use Rattle.meaning.specs.Tokens.{Token, the}
 use Rattle.layout.specs.Tokens.{kind_at, place_at, value_at, TokenRow}
-use Rattle.layout.specs.declared.Stage.{Stage}
-use Rattle.layout.specs.declared.Stage.TheVariants.{Done, Refused}
+use Rattle.layout.specs.Stage.{Stage}
+use Rattle.std.specs.declared.result.Result.TheVariants.{Ok, Err}
 use Rattle.tokens.specs.Lexing.{lexed_count, Lexes}
 
 -- The words of two tokens coincide: the kinds, the places, and the values of a number and of a name.
@@ -33,17 +33,21 @@ pub record SameLexed (r r' : Stage) (buffer buffer' : List ℕ) : Type 0 where
 
 module _ {text buffer buffer' : List ℕ} where
   answers : (r r' : Stage) → Lexes text r buffer → Lexes text r' buffer' → r ≡ r'
-  answers (Done n v) (Done m w) x y =
+  answers (Ok reached) (Ok again) x y =
       let e : x.tokens ≡ y.tokens = cc (x.is, y.is) in
-      let n_is : n ≡ m = x.count ∙ ap length e ∙ sym y.count in
-      let v_is : v ≡ w = x.size ∙ rw e (sym y.size) in cc (n_is, v_is)
-  answers (Done n v) (Refused c p) x y = cc (x.is, y.is)
-  answers (Refused c p) (Done m w) x y = cc (x.is, y.is)
-  answers (Refused c p) (Refused d q) x y = cc (x.is, y.is)
+      let count_is : reached.count ≡ again.count = x.count ∙ ap length e ∙ sym y.count in
+      let size_is : reached.size ≡ again.size = x.size ∙ rw e (sym y.size) in
+      let same : Ok (record { count = reached.count; size = reached.size }) ≡ Ok again = rw (count_is, size_is) in same
+  answers (Ok reached) (Err why) x y = cc (x.is, y.is)
+  answers (Err why) (Ok reached) x y = cc (x.is, y.is)
+  answers (Err why) (Err again) x y =
+      let refusal_is : why.refusal ≡ again.refusal = cc (x.is, y.is) in
+      let place_is : why.place ≡ again.place = cc (x.is, y.is) in
+      let same : Err (record { refusal = why.refusal; place = why.place }) ≡ Err again = rw (refusal_is, place_is) in same
 
   tokens_of : (r : Stage) (x : Lexes text r buffer) (y : Lexes text r buffer') (i : ℕ) → i < lexed_count r → x.tokens ≡ y.tokens
-  tokens_of (Done n v) x y i lt = cc (x.is, y.is)
-  tokens_of (Refused c p) x y i lt = absurd (omega arith)
+  tokens_of (Ok reached) x y i lt = cc (x.is, y.is)
+  tokens_of (Err why) x y i lt = absurd (omega arith)
 
   pub lex_unique : (r r' : Stage) → Lexes text r buffer → Lexes text r' buffer' → SameLexed r r' buffer buffer'
   lex_unique r r' x y =

@@ -4,14 +4,14 @@ use mathlib.Core.Path.{◌≡◌, refl, sym, ap, ◌∙◌}
 use mathlib.Core.Bool.{Bool, true, false, ◌&&◌}
 use mathlib.Core.List.{List, [], ◌∷◌, ◌++◌}
 use mathlib.Core.Option.{Option, none, some}
-use Prim.Native.Nat.{ℕ, zero, suc, ◌+◌, ◌*◌, ◌≤◌, ◌<◌}
+use Prim.Native.Nat.{ℕ, zero, suc, ◌+◌, ◌≤◌, ◌<◌}
 use Prim.Native.String.{String}
-use native.Mathlib.Nat.{zero-add, suc-add}
+use native.Mathlib.Nat.{add-zero, zero-add, suc-add}
 use native.Mathlib.Numerals.{add-one}
 use native.Mathlib.Omega.{arith}
-use lib.ListN.{length, get_or, take, drop, length-append}
-use lib.Seq.{drop-nil, drop-drop, take_at, drop_at, get_or-take, get_or-drop}
-use Rattle.meaning.specs.Codes.{option, lookup}
+use lib.ListN.{length, get_or, drop, drop_of_length-le}
+use lib.Seq.{drop-nil, drop-cons}
+use Rattle.meaning.specs.Codes.{lookup}
 use Rattle.meaning.specs.Tokens.{bytes, numbered}
 use Rattle.tokens.specs.Lexing.{blank, filled, rows}
 
@@ -33,95 +33,66 @@ filled_at (suc n) [] (suc i) lt = filled_at n [] i (omega arith)
 filled_at (suc n) (b ∷ s) zero lt = refl
 filled_at (suc n) (b ∷ s) (suc i) lt = filled_at n s i (omega arith)
 
--- What is found, by its number, where another number says that nothing is.
-pub told_some : {d k : ℕ} (o : Option ℕ) → k ≡ option d (λ n. n) o → (k ≡ d → ⊥) → o ≡ some k
-told_some none e ne = absurd (ne e)
-told_some (some n) e ne = rw e
-
-pub told_none : {d : ℕ} (o : Option ℕ) → d ≡ option d (λ n. n) o → ((n : ℕ) → o ≡ some n → d < n) → o ≡ none
-told_none none e above = refl
-told_none {d} (some n) e above = let is : d ≡ n = e in absurd (omega (arith, above n refl))
-
 -- Every text passes a test.
 abbrev pub every : (List ℕ → Bool) → List String → Bool
 every test [] = true
 every test (r ∷ l) = test (bytes r) && every test l
 
-module _ (width : ℕ) (test : List ℕ → Bool) (first : ℕ) (texts : List String) (list : List ℕ) where
+module _ (width : ℕ) (test : List ℕ → Bool) (first : ℕ) (texts : List String) (list : List (List ℕ)) where
   -- What the definition finds.
   abbrev pub looked : Option ℕ
   looked = lookup (λ r. test (bytes r)) (numbered first texts)
 
-  -- At a row, whose text would have the number `kind`: no text before it has passed.
-  pub record Walk (at kind : ℕ) : Type 0 where
+  -- At row i: no text before it has passed.
+  pub record Walk (i : ℕ) : Type 0 where
     pub left : List String
-    pub here : drop at list ≡ rows width left
-    pub same : looked ≡ lookup (λ r. test (bytes r)) (numbered kind left)
-    pub kinds : kind + length left ≡ first + length texts
-    pub places : at + length left * width ≡ length list
+    pub here : drop i list ≡ rows width left
+    pub same : looked ≡ lookup (λ r. test (bytes r)) (numbered (first + i) left)
+    pub count : i + length left ≡ length texts
 
-  length-rows : (l : List String) → length (rows width l) ≡ length l * width
-  length-rows [] = omega arith
-  length-rows (r ∷ l) =
-      let row = length-filled width (bytes r) in
-      let more = length-rows l in
-      length-append (filled width (bytes r)) (rows width l) ∙ omega arith
-
-  pub walk_start : list ≡ rows width texts → Walk 0 first
-  walk_start is =
-      record {
-        left = texts;
-        here = is;
-        same = refl;
-        kinds = refl;
-        places = rw is (let long = length-rows texts in omega arith);
-      }
+  pub walk_start : list ≡ rows width texts → Walk 0
+  walk_start is = record { left = texts; here = is; same = rw add-zero; count = omega arith }
 
   -- The row at which a walk is, and how it goes on.
-  pub record Row (at kind : ℕ) : Type 0 where
+  pub record Row (i : ℕ) : Type 0 where
     pub text : String
-    pub row : take width (drop at list) ≡ filled width (bytes text)
-    pub within : at + width ≤ length list
-    pub few : kind < first + length texts
-    pub hit : test (bytes text) ≡ true → looked ≡ some kind
-    pub miss : test (bytes text) ≡ false → Walk (at + width) (kind + 1)
+    pub row : get_or list i [] ≡ filled width (bytes text)
+    pub few : i < length texts
+    pub hit : test (bytes text) ≡ true → looked ≡ some (first + i)
+    pub miss : test (bytes text) ≡ false → Walk (i + 1)
 
-  pub walk_row : {at kind : ℕ} → Walk at kind → at < length list → Row at kind
+  pub walk_row : {i : ℕ} → Walk i → i < length list → Row i
   unfolding numbered
-  walk_row {at} {kind} w lt = go w.left w.here w.same w.kinds w.places
+  walk_row {i} w lt = go w.left (sym (drop-cons list i [] lt) ∙ w.here) w.same w.count
     where
-      go : (l : List String) → drop at list ≡ rows width l → looked ≡ lookup (λ r. test (bytes r)) (numbered kind l)
-          → kind + length l ≡ first + length texts → at + length l * width ≡ length list → Row at kind
-      go [] here same kinds places = absurd (omega arith)
-      go (r ∷ l) here same kinds places =
-          let long = length-filled width (bytes r) in
+      go : (l : List String) → get_or list i [] ∷ drop (suc i) list ≡ rows width l → looked ≡ lookup (λ r. test (bytes r)) (numbered (first + i) l)
+          → i + length l ≡ length texts → Row i
+      go [] here same count = absurd (cc)
+      go (r ∷ l) here same count =
+          let next : suc (first + i) ≡ first + (i + 1) = omega arith in
           record {
             text = r;
-            row = rw here (take_at (filled width (bytes r)) (rows width l) width long);
-            within = omega arith;
+            row = cc;
             few = omega arith;
             hit = λ e. same ∙ rw e;
             miss = λ e.
                 record {
                   left = l;
-                  here = sym (drop-drop width at list) ∙ rw here (drop_at (filled width (bytes r)) (rows width l) width long);
-                  same = same ∙ rw (e, add-one kind);
-                  kinds = omega arith;
-                  places = omega arith;
+                  here = rw (add-one i) (cc);
+                  same = same ∙ rw (e, next);
+                  count = omega arith;
                 };
           }
 
   -- A byte of the row.
-  pub row_byte : {at kind : ℕ} (r : Row at kind) (i : ℕ) → i < width → get_or list (at + i) 0 ≡ get_or (bytes r.text) i blank
-  row_byte {at} r i lt =
-      sym (get_or-take width (drop at list) i 0 lt ∙ get_or-drop at list i 0)
-      ∙ rw r.row (filled_at width (bytes r.text) i lt)
+  pub row_byte : {i : ℕ} (r : Row i) (j : ℕ) → j < width → get_or (get_or list i []) j 0 ≡ get_or (bytes r.text) j blank
+  row_byte r j lt = rw r.row (filled_at width (bytes r.text) j lt)
 
   -- Past the last row.
-  pub walk_end : {at kind : ℕ} → Walk at kind → 0 < width → length list ≤ at → looked ≡ none
+  pub walk_end : {i : ℕ} → Walk i → length list ≤ i → looked ≡ none
   unfolding numbered
-  walk_end {at} {kind} w some_bytes le = go w.left w.same w.places
+  walk_end {i} w le = go w.left (sym (drop_of_length-le list le) ∙ w.here) w.same
     where
-      go : (l : List String) → looked ≡ lookup (λ r. test (bytes r)) (numbered kind l) → at + length l * width ≡ length list → looked ≡ none
-      go [] same places = same
-      go (r ∷ l) same places = absurd (omega arith)
+      go : (l : List String) → [] ≡ rows width l → looked ≡ lookup (λ r. test (bytes r)) (numbered (first + i) l) → looked ≡ none
+      go [] here same = same
+      go (r ∷ l) here same = absurd (cc)

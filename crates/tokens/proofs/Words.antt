@@ -2,7 +2,7 @@
 use mathlib.Core.Path.{◌≡◌, refl, ap, ◌∙◌}
 use mathlib.Core.Bool.{Bool, true, false, ◌&&◌, ◌||◌}
 use mathlib.Core.List.{List, [], ◌∷◌}
-use mathlib.Core.Option.{none}
+use mathlib.Core.Option.{Option, none, some}
 use Prim.Native.Nat.{ℕ, suc, ◌+◌, ◌≤◌, ◌<◌}
 use Prim.Native.String.{String}
 use native.Mathlib.Omega.{arith}
@@ -12,18 +12,28 @@ use lib.ListN.{length}
 use Rattle.meaning.specs.Codes.{when◌then◌else◌, option, lookup, name_limit}
 use Rattle.meaning.specs.Memory.{number_of}
 use Rattle.meaning.specs.Tokens.{bad, token, bytes, reserved, numbered, words, the, word, digit, letter, letter_or_digit, run_of}
-use Rattle.tokens.specs.declared.Lexeme.TheVariants.{Token, Bad}
+use Rattle.std.specs.declared.option.Option.TheVariants.{Some, None}
+use Rattle.tokens.specs.declared.Lexeme.TheVariants.{Token}
 use Rattle.tokens.specs.Lexing.{Word, word_kind, row_bytes, letters, row_kind, lexeme}
 use Rattle.laws.proofs.The.{the_name}
 use Rattle.laws.proofs.Tests.{and_l, and_r, or_cases}
 use Rattle.laws.proofs.Bytes.{lengths_differ}
 use Rattle.laws.proofs.Pieces.{found, reserved_from}
-use Rattle.tokens.proofs.Walking.{told_some, told_none, every}
+use Rattle.tokens.proofs.Walking.{every}
 use Rattle.tokens.proofs.Spelling.{spelled_same, spaces, no_letters}
+
+-- What is found, by its number, where another number says that nothing is.
+told_some : {d k : ℕ} (o : Option ℕ) → k ≡ option d (λ n. n) o → (k ≡ d → ⊥) → o ≡ some k
+told_some none e ne = absurd (ne e)
+told_some (some n) e ne = rw e
+
+told_none : {d : ℕ} (o : Option ℕ) → d ≡ option d (λ n. n) o → ((n : ℕ) → o ≡ some n → d < n) → o ≡ none
+told_none none e above = refl
+told_none {d} (some n) e above = let is : d ≡ n = e in absurd (omega (arith, above n refl))
 
 -- A word as a piece, by its kind.
 module _ (at : ℕ) (s : List ℕ) where
-  pub reserved-word : {k : ℕ} → k ≡ word_kind s → (k ≡ 2 → ⊥) → Token k 0 (length s) ≡ lexeme at (word s)
+  pub reserved-word : {k : ℕ} → k ≡ word_kind s → (k ≡ 2 → ⊥) → Some (Token k 0 (length s)) ≡ lexeme at (word s)
   unfolding word_kind word lexeme
   reserved-word {k} is ne = rw (told_some (found s words) (is ∙ rw the_name) ne, the_name, ne_eqb k 2 ne)
 
@@ -31,11 +41,11 @@ module _ (at : ℕ) (s : List ℕ) where
   unfolding word_kind word
   name_word is = rw (told_none (found s words) (is ∙ rw the_name) (λ n h. let le = reserved_from s h in omega arith))
 
-  pub long_name : 2 ≡ word_kind s → name_limit < length s → Bad ≡ lexeme at (word s)
+  pub long_name : 2 ≡ word_kind s → name_limit < length s → None ≡ lexeme at (word s)
   unfolding lexeme
   long_name is lt = rw (name_word is, lt-leb (length s) name_limit lt)
 
-  pub good_name : 2 ≡ word_kind s → length s ≤ name_limit → Token 2 (at + length s) (length s) ≡ lexeme at (word s)
+  pub good_name : 2 ≡ word_kind s → length s ≤ name_limit → Some (Token 2 (at + length s) (length s)) ≡ lexeme at (word s)
   unfolding lexeme
   good_name is le = rw (name_word is, le-leb (length s) name_limit le, the_name)
 

@@ -1,17 +1,17 @@
 -- What the lexer promises: its answer and the buffer are exactly the definition's tokens, or its refusal.
-use Rattle.std.specs.Prelude.{ℕ, zero, suc, ◌+◌, ◌*◌, ◌≤◌, min, ◌≡◌, Bool, ◌&&◌, List, [], ◌∷◌, ◌++◌, eqb, length, get_or, take, drop}
+use Rattle.std.specs.Prelude.{ℕ, zero, suc, ◌+◌, ◌*◌, ◌≤◌, min, ◌≡◌, Bool, ◌&&◌, List, [], ◌∷◌, eqb, length, get_or, take, drop}
 use Prim.Native.String.{String}
-use Rattle.meaning.specs.Codes.{Out, ok, refused, when◌then◌else◌, option, lookup, text_limit}
-use Rattle.meaning.specs.Tokens.{Token, Piece, over, bad, gap, token, the, bytes, equal, words, marks, space, digit, letter_or_digit, in_line, run_of, constant, numeral, lexed}
+use Rattle.meaning.specs.Codes.{Out, ok, refused, when◌then◌else◌, option, lookup, text_limit, number_limit}
+use Rattle.meaning.specs.Tokens.{Token, Piece, over, bad, gap, token, the, bytes, equal, words, marks, digit, letter_or_digit, run_of, decimal, good_number, constant, numeral, lexed}
 use Rattle.meaning.specs.Memory.{number_of}
 use Rattle.layout.specs.Sizes.{token_room}
 use Rattle.layout.specs.Tokens.{token_words, Holds}
-use Rattle.tokens.specs.declared.Class.{Class}
-use Rattle.tokens.specs.declared.Class.TheVariants.{Space, Digit, LetterOrDigit, InLine}
 use Rattle.tokens.specs.declared.Lexeme.{Lexeme}
-use Rattle.tokens.specs.declared.Lexeme.TheVariants.{Gap, Token as OneToken, Bad}
-use Rattle.layout.specs.declared.Stage.{Stage}
-use Rattle.layout.specs.declared.Stage.TheVariants.{Done, Refused}
+use Rattle.tokens.specs.declared.Lexeme.TheVariants.{Gap, Token as OneToken}
+use Rattle.layout.specs.Stage.{Stage}
+use Rattle.std.specs.declared.option.Option.{Option}
+use Rattle.std.specs.declared.option.Option.TheVariants.{Some, None}
+use Rattle.std.specs.declared.result.Result.TheVariants.{Ok, Err}
 
 -- The buffer has room for a token for each byte of the text, as far as a text may go, and for its end.
 abbrev pub TokenRoom : List ℕ → List ℕ → Type 0
@@ -19,23 +19,23 @@ TokenRoom text buffer = token_room (min (length text) text_limit) ≤ length buf
 
 -- What an answer says of a text of n bytes, where the buffer holds ts.
 abbrev pub lexed_outcome : ℕ → List Token → Stage → Out ℕ (List Token)
-lexed_outcome n ts (Done m z) = ok ts n
-lexed_outcome n ts (Refused c p) = refused c p
+lexed_outcome n ts (Ok reached) = ok ts n
+lexed_outcome n ts (Err why) = refused why.refusal why.place
 
 -- How many tokens an answer counts.
 abbrev pub lexed_count : Stage → ℕ
-lexed_count (Done m z) = m
-lexed_count (Refused c p) = 0
+lexed_count (Ok reached) = reached.count
+lexed_count (Err why) = 0
 
 -- How many words they have.
 abbrev pub lexed_size : Stage → ℕ
-lexed_size (Done m z) = z
-lexed_size (Refused c p) = 0
+lexed_size (Ok reached) = reached.size
+lexed_size (Err why) = 0
 
 -- The place of a refusal.
 abbrev pub refusal_place : Stage → ℕ
-refusal_place (Done m z) = 0
-refusal_place (Refused c p) = p
+refusal_place (Ok reached) = 0
+refusal_place (Err why) = why.place
 
 -- The promise: the text's tokens are as answered, and the buffer holds them; after a refusal there are none.
 pub record Lexes (text : List ℕ) (r : Stage) (buffer : List ℕ) : Type 0 where
@@ -47,12 +47,13 @@ pub record Lexes (text : List ℕ) (r : Stage) (buffer : List ℕ) : Type 0 wher
   pub near : refusal_place r ≤ text_limit
   pub holds : Holds buffer tokens
 
--- The test that the bytes of a class pass.
-abbrev pub class_test : Class → ℕ → Bool
-class_test Space = space
-class_test Digit = digit
-class_test LetterOrDigit = letter_or_digit
-class_test InLine = in_line
+-- What a call answers of a byte is what the test says.
+abbrev pub Tells : (ℕ → Bool → Type 0) → (ℕ → Bool) → Type 0
+Tells answers test = (b : ℕ) (r : Bool) → answers b r → r ≡ test b
+
+-- The number that the digits s are, if they are those of one.
+unfoldable pub number_in : List ℕ → Option ℕ
+number_in s = when good_number number_limit s then (λ _. Some (decimal 0 s)) else λ _. None
 
 -- What begins with the digits of s.
 abbrev pub numeral_of : List ℕ → Piece
@@ -87,10 +88,10 @@ filled zero s = []
 filled (suc n) [] = blank ∷ filled n []
 filled (suc n) (b ∷ s) = b ∷ filled n s
 
--- Texts in rows of n bytes, one after another.
-abbrev pub rows : ℕ → List String → List ℕ
+-- A row of n bytes for each text.
+abbrev pub rows : ℕ → List String → List (List ℕ)
 rows n [] = []
-rows n (r ∷ l) = filled n (bytes r) ++ rows n l
+rows n (r ∷ l) = filled n (bytes r) ∷ rows n l
 
 -- Four letters of a word, from the i-th on, with spaces after its end.
 abbrev pub letters : List ℕ → ℕ → List ℕ
@@ -108,13 +109,13 @@ row_kind a b c = option (the "name") (λ k. k) (lookup (λ r. spelled (bytes r) 
 unfoldable pub paired : List ℕ → ℕ → ℕ → Bool
 paired s b c = eqb (get_or s 0 blank) b && eqb (get_or s 1 blank) c
 
--- What the sign is that has these two bytes, and the end where none has them.
-unfoldable pub sign_kind : ℕ → ℕ → ℕ
-sign_kind b c = option (the "end") (λ k. k) (lookup (λ r. paired (bytes r) b c) marks)
+-- What the sign is that has these two bytes.
+unfoldable pub sign_kind : ℕ → ℕ → Option ℕ
+sign_kind b c = option None Some (lookup (λ r. paired (bytes r) b c) marks)
 
--- A piece at place p as the code has it: beside a name stands its end.
-unfoldable pub lexeme : ℕ → Piece → Lexeme
-lexeme p over = Bad
-lexeme p bad = Bad
-lexeme p (gap n) = Gap n
-lexeme p (token k v x n) = OneToken k (when eqb k (the "name") then (λ _. p + n) else λ _. v) n
+-- A piece at place p as the code has it, where a rule allows it: beside a name stands its end.
+unfoldable pub lexeme : ℕ → Piece → Option Lexeme
+lexeme p over = None
+lexeme p bad = None
+lexeme p (gap n) = Some (Gap n)
+lexeme p (token k v x n) = Some (OneToken k (when eqb k (the "name") then (λ _. p + n) else λ _. v) n)

@@ -10,18 +10,19 @@ use operators::int_of;
 
 // Document 01's reserved words, in its order, and document 02's `float`: a row for each, filled up with spaces. Their tokens are numbered
 // in this order, from `token::INT` on.
-const RESERVED: [u8; 11 * ROW] = *b"\
-    int         \
-    bool        \
-    block       \
-    if          \
-    else        \
-    while       \
-    scalar      \
-    current_mask\
-    true        \
-    false       \
-    float       ";
+const RESERVED: [[u8; ROW]; 11] = [
+    *b"int         ",
+    *b"bool        ",
+    *b"block       ",
+    *b"if          ",
+    *b"else        ",
+    *b"while       ",
+    *b"scalar      ",
+    *b"current_mask",
+    *b"true        ",
+    *b"false       ",
+    *b"float       ",
+];
 
 // The bytes of a row.
 const ROW: usize = 12;
@@ -51,25 +52,20 @@ pub fn kind(word: &[u8]) -> u32
 }
 
 // What the reserved word is that has these letters, and a name where none has them: the rows are tried from the first to the last.
-fn row_kind(list: &[u8], first: u32, second: u32, third: u32) -> u32
+fn row_kind(list: &[[u8; ROW]], first: u32, second: u32, third: u32) -> u32
     requires { list.now ≡ rows row_bytes reserved }
     ensures { result ≡ row_kind first second third }
 {
-    let mut kind = token::INT;
-    let mut at = 0;
-    while at < list.len() {
-        if spells(&list[at..at + ROW], first, second, third) {
-            return kind;
+    for (i, row) in list.iter().enumerate() {
+        if spells(row, first, second, third) {
+            return token::INT + i as u32;
         }
-        kind += 1;
-        at += ROW;
     }
     token::NAME
 }
 
 // Does a row have these letters? Most rows differ in the first four.
-fn spells(row: &[u8], first: u32, second: u32, third: u32) -> bool
-    requires { length row.now ≡ row_bytes }
+fn spells(row: &[u8; ROW], first: u32, second: u32, third: u32) -> bool
     ensures { result ≡ spelled row.now first second third }
 {
     let one = int_of(&row[0..PART]);

@@ -5,7 +5,6 @@ use mathlib.Core.Path.{◌≡◌, refl, sym, ap, ◌∙◌}
 use mathlib.Core.List.{List, [], ◌∷◌, ◌++◌, append_assoc, append-nil}
 use lib.ListN.{length, get_or, take, drop, length-append, length-drop, get_or-append}
 use lib.Seq.{get_or-drop}
-use Rattle.meaning.specs.declared.Refusal.{Refusal}
 use Rattle.meaning.specs.Codes.{ok, after}
 use Rattle.meaning.specs.Tree.{Stmt, empty, braces, declare, assign, if_else, while, scalar, Stmts, none_yet, ◌⨾◌}
 use Rattle.meaning.specs.Program.{Program, nothing, both}
@@ -19,8 +18,9 @@ use Rattle.typing_expressions.specs.declared.Point.{Point}
 use Rattle.typing_expressions.specs.Rows.{Rows}
 use Rattle.typing_expressions.specs.Answers.{ThereIs, TypingRoom}
 use Rattle.typing_expressions.proofs.Walk.{after-after, after_same}
-use Rattle.layout.specs.declared.Stage.{Stage}
-use Rattle.layout.specs.declared.Stage.TheVariants.{Done, Refused}
+use Rattle.layout.specs.declared.Reached.{Reached}
+use Rattle.layout.specs.declared.Refused.{Refused}
+use Rattle.std.specs.declared.result.Result.TheVariants.{Ok, Err}
 use Rattle.typing_simple.specs.Shapes.{part}
 use Rattle.typing.specs.Shapes.{Statement, Statements}
 use Rattle.typing_simple.specs.Answers.{Walks}
@@ -169,65 +169,67 @@ sequel_start {code = code} {at = at} g s = record {
 }
 
 module _ {text tree : List ℕ} {r : ℕ} {at : Point} {table₀ code₀ stack₀ table code stack : List ℕ} {i n z : ℕ} (g : Sequel text tree r at table₀ code₀ stack₀ table code stack i n z) where
-  pub sequel_end : length tree ≤ i → (l : Stmts) → Statements r text tree l → Walks text table (take at.size code₀) code at.count (at.size + length tree) (Done n z) (typed_statements at.context l (entries text table₀ at.count))
+  pub sequel_end : length tree ≤ i → (l : Stmts) → Statements r text tree l → Walks text table (take at.size code₀) code at.count (at.size + length tree) (Ok (record { count = n; size = z })) (typed_statements at.context l (entries text table₀ at.count))
   unfolding words_of go_on
   sequel_end e l x = let y = g.on l x in go y.rest y.from_here y y.on
     where
       go : (m : List Stmt) → drop i tree ≡ words_of m → (y : SequenceFrom text tree table code r at.context n z i (take at.size code₀) (entries text table₀ at.count) l) → typed_statements at.context l (entries text table₀ at.count) ≡ go_on at.context m y.program (entries text table n)
-          → Walks text table (take at.size code₀) code at.count (at.size + length tree) (Done n z) (typed_statements at.context l (entries text table₀ at.count))
-      go [] h y o = Outcomes.on_walks refl o (record { rows = g.rows; more = g.more_rows; room = omega (arith, g.room, g.inside); words = y.words })
+          → Walks text table (take at.size code₀) code at.count (at.size + length tree) (Ok (record { count = n; size = z })) (typed_statements at.context l (entries text table₀ at.count))
+      go [] h y o = Outcomes.on_walks o (record { rows = g.rows; more = g.more_rows; room = omega (arith, g.room, g.inside); words = y.words })
       go (s ∷ m) h y o = absurd (omega (arith, length-drop i tree, ap length h, length-append (flat_stmt s) (words_of m), statement_long s))
 
-  module _ (l : i < length tree) {e : ℕ} (ee : e ≡ i + 3 + get_or tree (i + 2) 0) where
-    pub sequel_here : (s : Stmts) (x : Statements r text tree s) → StatementHere text tree r i e (g.on s x).rest
-    sequel_here s x = rw ee (here (g.on s x).from_here (g.on s x).each l)
+  -- The statement at word i, whose third word is w.
+  module _ (l : i < length tree) {w : ℕ} (ew : w ≡ get_or tree (i + 2) 0) where
+    pub sequel_here : (s : Stmts) (x : Statements r text tree s) → StatementHere text tree r i (i + 3 + w) (g.on s x).rest
+    sequel_here s x = rw ew (here (g.on s x).from_here (g.on s x).each l)
 
-    its : StatementHere text tree r i e (g.on g.some.the g.some.is).rest
+    its : StatementHere text tree r i (i + 3 + w) (g.on g.some.the g.some.is).rest
     its = sequel_here g.some.the g.some.is
 
-    pub sequel_inside : e ≤ length tree
+    pub sequel_inside : i + 3 + w ≤ length tree
     sequel_inside = its.inside
 
-    pub sequel_on : i < e
+    pub sequel_on : i < i + 3 + w
     sequel_on = its.on
 
-    pub sequel_statement : ThereIs (Statement r text (part tree i e))
+    pub sequel_statement : ThereIs (Statement r text (part tree i (i + 3 + w)))
     sequel_statement = record { the = its.one; is = its.at }
 
-    pub sequel_room : TypingRoom text (part tree i e) table code stack (record { context = at.context; count = n; size = z })
-    sequel_room = room_again g.lent g.rows g.lent.listed (omega (arith, length_part tree i e (omega (arith, sequel_on)) sequel_inside, g.room, sequel_inside, sequel_on)) g.code_long g.stack_long
+    pub sequel_room : TypingRoom text (part tree i (i + 3 + w)) table code stack (record { context = at.context; count = n; size = z })
+    sequel_room = room_again g.lent g.rows g.lent.listed (omega (arith, length_part tree i (i + 3 + w) (omega (arith, sequel_on)) sequel_inside, g.room, sequel_inside, sequel_on)) g.code_long g.stack_long
 
-    module _ {table' code' : List ℕ} {one : Stage} (w : (s : Stmt) → Statement r text (part tree i e) s → Walks text table' (take z code) code' n (z + length (part tree i e)) one (typed_statement at.context s (entries text table n))) where
-      pub sequel_refused : {c : Refusal} {p : ℕ} {T code'' : List ℕ} → one ≡ Refused c p → (s : Stmts) → Statements r text tree s → Walks text T (take at.size code₀) code'' at.count (at.size + length tree) one (typed_statements at.context s (entries text table₀ at.count))
-      unfolding go_on
-      sequel_refused q s x =
-          let y = sequel_here s x in
-          Outcomes.no_walks q ((g.on s x).on ∙ rw y.is (rw (Outcomes.walks_no (w y.one y.at) q)))
+    pub sequel_refused : {table' code' T code'' : List ℕ} {why : Refused} → ((s : Stmt) → Statement r text (part tree i (i + 3 + w)) s → Walks text table' (take z code) code' n (z + length (part tree i (i + 3 + w))) (Err why) (typed_statement at.context s (entries text table n)))
+        → (s : Stmts) → Statements r text tree s → Walks text T (take at.size code₀) code'' at.count (at.size + length tree) (Err why) (typed_statements at.context s (entries text table₀ at.count))
+    unfolding go_on
+    sequel_refused v s x =
+        let y = sequel_here s x in
+        Outcomes.no_walks ((g.on s x).on ∙ rw y.is (rw (Outcomes.walks_no (v y.one y.at))))
 
-      pub sequel_next : {m y : ℕ} {stack' : List ℕ} → one ≡ Done m y → length table' ≡ length table → length code' ≡ length code → length stack' ≡ length stack
-          → Sequel text tree r at table₀ code₀ stack₀ table' code' stack' e m y
-      unfolding go_on program_words
-      sequel_next {m} {y} q lt lc ls =
-          let d = (w its.one its.at).on m y q in
-          record {
-            lent = g.lent;
-            some = g.some;
-            table_long = lt ∙ g.table_long;
-            code_long = lc ∙ g.code_long;
-            stack_long = ls ∙ g.stack_long;
-            rows = d.rows;
-            more_rows = omega (arith, g.more_rows, d.more);
-            inside = sequel_inside;
-            room = omega (arith, d.room, g.room, length_part tree i e (omega (arith, sequel_on)) sequel_inside, sequel_on);
-            on = λ s x.
-                let h = sequel_here s x in
-                let v = w h.one h.at in
-                record {
-                  rest = h.others;
-                  from_here = h.next;
-                  each = h.each;
-                  program = both (g.on s x).program v.program;
-                  on = (g.on s x).on ∙ rw h.is (rw (Outcomes.walks_ok v q));
-                  words = then (take at.size code₀) (program_words (g.on s x).program) (program_words v.program) (g.on s x).words (v.on m y q).words;
-                };
-          }
+    pub sequel_next : {table' code' stack' : List ℕ} {to : Reached} → ((s : Stmt) → Statement r text (part tree i (i + 3 + w)) s → Walks text table' (take z code) code' n (z + length (part tree i (i + 3 + w))) (Ok to) (typed_statement at.context s (entries text table n)))
+        → length table' ≡ length table → length code' ≡ length code → length stack' ≡ length stack
+        → Sequel text tree r at table₀ code₀ stack₀ table' code' stack' (i + 3 + w) to.count to.size
+    unfolding go_on program_words
+    sequel_next v lt lc ls =
+        let d = (v its.one its.at).on in
+        record {
+          lent = g.lent;
+          some = g.some;
+          table_long = lt ∙ g.table_long;
+          code_long = lc ∙ g.code_long;
+          stack_long = ls ∙ g.stack_long;
+          rows = d.rows;
+          more_rows = omega (arith, g.more_rows, d.more);
+          inside = sequel_inside;
+          room = omega (arith, d.room, g.room, length_part tree i (i + 3 + w) (omega (arith, sequel_on)) sequel_inside, sequel_on);
+          on = λ s y.
+              let h = sequel_here s y in
+              let x = v h.one h.at in
+              record {
+                rest = h.others;
+                from_here = h.next;
+                each = h.each;
+                program = both (g.on s y).program x.program;
+                on = (g.on s y).on ∙ rw h.is (rw (Outcomes.walks_ok x));
+                words = then (take at.size code₀) (program_words (g.on s y).program) (program_words x.program) (g.on s y).words x.on.words;
+              };
+        }

@@ -104,8 +104,8 @@ module _ {text : List ℕ} where
     its_body = record { is = part_last (flat_stmt (scalar p s)) (flat_stmt s) 3 refl; walkable = x };
   }))
 
-pub shape : {text words : List ℕ} {n : ℕ} {s : Stmt} → Statement n text words s → Shape text n words s (get_or words 0 0)
-shape {text} {words} {n} {s} i = rw i.is (shape_of i.walkable)
+pub shape : {text words : List ℕ} {n tag : ℕ} {s : Stmt} → get_or words 0 0 ≡ tag → Statement n text words s → Shape text n words s tag
+shape q i = rw (← q, i.is) (shape_of i.walkable)
 
 -- ---- a statement by its tag
 module _ {text words : List ℕ} {n : ℕ} {s : Stmt} where

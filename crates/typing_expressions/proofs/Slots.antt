@@ -6,14 +6,14 @@ use mathlib.Core.Path.{◌≡◌, refl}
 use mathlib.Core.List.{List, ◌∷◌}
 use lib.ListN.{length, get_or}
 use Rattle.meaning.specs.declared.Kind.{Kind}
-use Rattle.meaning.specs.declared.Refusal.{Refusal}
 use Rattle.meaning.specs.Codes.{ok, refused}
 use Rattle.meaning.specs.Tree.{kind_number}
 use Rattle.meaning.specs.Memory.{Declarations}
 use Rattle.layout.specs.Stack.{slot_kind, slot_lanes, with_slot}
 use Rattle.layout.specs.Table.{kind_of}
-use Rattle.layout.specs.declared.Stage.{Stage}
-use Rattle.layout.specs.declared.Stage.TheVariants.{Done, Refused}
+use Rattle.layout.specs.declared.Reached.{Reached}
+use Rattle.layout.specs.declared.Refused.{Refused}
+use Rattle.std.specs.declared.result.Result.TheVariants.{Ok, Err}
 use Rattle.layout.proofs.KindNumbers.{kind_back}
 use Rattle.typing_expressions.specs.declared.Point.{Point}
 use Rattle.typing_expressions.specs.Nodes.{TreeNode, entry_at, Slot, step, slots}
@@ -45,19 +45,20 @@ module _ (st : List ℕ) (b : ℕ) where
 -- ---- a node's answer
 module _ {at : Point} {n : TreeNode} {l : List Slot} {Γ : Declarations} {b : ℕ} {before after : List ℕ} where
   -- A refusal pushes nothing.
-  pub node_refused : {c : Refusal} {p : ℕ} → refused c p ≡ step at.context n l Γ → TypesNode at n l Γ b before after (Refused c p)
+  pub node_refused : {why : Refused} → refused why.refusal why.place ≡ step at.context n l Γ → TypesNode at n l Γ b before after (Err why)
   unfolding entry_out
-  node_refused e = record { is = e; on = λ h z q. absurd (let y : ◌≡◌ {A = ℕ} 0 1 = cc in omega arith) }
+  node_refused e = record { is = e; on = tt }
 
   -- A result that is put into its slot stands there.
   pub node_put : {k : Kind} {m w : ℕ} → after ≡ with_slot before b (kind_number k) m w → b * 3 + 3 ≤ length before → ok (record { kind = k; lanes = m; word = w }) Γ ≡ step at.context n l Γ
-      → TypesNode at n l Γ b before after (Done (b + 1) at.size)
+      → TypesNode at n l Γ b before after (Ok (record { count = b + 1; size = at.size }))
   unfolding entry_out
   node_put {k} {m} {w} e room s = record {
     is = rw (e, entry_put before b k m w room) s;
-    on = λ h z q. record { height = cc; size = cc; under = rw e (slots_under before b (kind_number k) m w b (omega arith)) };
+    on = record { height = refl; size = refl; under = rw e (slots_under before b (kind_number k) m w b (omega arith)) };
   }
 
   -- What a callee has typed and put.
-  pub node_done : {r : Stage} {h z : ℕ} → TypesNode at n l Γ b before after r → r ≡ Done h z → TypesNode at n l Γ b before after (Done (b + 1) at.size)
-  node_done {r} {h} {z} t q = let p = t.on h z q in rw (p.height, p.size) at (rw q at t)
+  pub node_done : {reached : Reached} → TypesNode at n l Γ b before after (Ok reached) → TypesNode at n l Γ b before after (Ok (record { count = b + 1; size = at.size }))
+  unfolding entry_out
+  node_done t = record { is = t.is; on = record { height = refl; size = refl; under = t.on.under } }

@@ -3,9 +3,10 @@ use Prim.Native.Nat.{ℕ, suc, ◌+◌, ◌-◌, ◌*◌, ◌≤◌, ◌<◌}
 use native.Mathlib.Omega.{arith}
 use native.Mathlib.Nat.{add-sub_cancel_left}
 use mathlib.Core.Path.{◌≡◌, refl, sym, ◌∙◌}
-use mathlib.Core.Bool.{Bool, true, false, ◌&&◌}
+use mathlib.Core.Bool.{Bool, true, false, ◌&&◌, true≢false}
 use mathlib.Core.List.{List, [], ◌∷◌}
-use mathlib.Core.Option.{some}
+use mathlib.Core.Option.{some, none}
+use Rattle.std.specs.Option.{is_some}
 use lib.ListN.{length, get_or}
 use borrow.Author.Tests.{lt-ltb, le-ltb}
 use Rattle.meaning.specs.declared.Kind.{Kind}
@@ -24,10 +25,10 @@ use Rattle.layout.proofs.Operators.{operator_back, sign_back}
 use Rattle.layout.specs.Table.{word_of, kind_of, entry, entries, with_row, kind_column, lanes_column}
 use Rattle.laws.specs.Sound.{Spelled, stack_limit}
 use Rattle.typing_expressions.specs.declared.Point.{Point}
-use Rattle.typing_expressions.specs.declared.Found.{Found}
-use Rattle.typing_expressions.specs.declared.Found.TheVariants.{At, Nothing}
-use Rattle.layout.specs.declared.Stage.{Stage}
-use Rattle.layout.specs.declared.Stage.TheVariants.{Done, Refused}
+use Rattle.layout.specs.Stage.{Stage}
+use Rattle.std.specs.declared.option.Option.{Option as Found}
+use Rattle.std.specs.declared.option.Option.TheVariants.{Some, None}
+use Rattle.std.specs.declared.result.Result.TheVariants.{Ok, Err}
 use Rattle.typing_expressions.specs.Rows.{Spans, ListedLength, Rows, spelled, number_of, Finds, end_of}
 use Rattle.typing_expressions.specs.Nodes.{TreeNode, a_number, a_float, a_boolean, a_name, a_mask, a_unary, a_binary, node_tag, node_first, node_second, arity, Slot, step, slots, IsNode, IsLeaf, NodeAt}
 use Rattle.typing_expressions.specs.Answers.{TypesNode, ThereIs, TypesName, TypesUnary, TypesBinary, number_out, DeclaresName}
@@ -46,28 +47,36 @@ find_low x k (d ∷ Γ) {i} h = go (d.open? && equal d.name x) refl (λ q. find_
     go true q f = let w : some k ≡ some i = rw q at h in let z : k ≡ i = cc in omega arith
     go false q f = omega (arith, f (rw q at h))
 
-module _ {text table : List ℕ} {count place end : ℕ} {r : Found} (f : Finds text table count place end r) where
-  pub found_low : {i : ℕ} → r ≡ At i → i < count
+module _ {text table : List ℕ} {count place end : ℕ} {r : Found ℕ} (f : Finds text table count place end r) where
+  pub found_low : {i : ℕ} → r ≡ Some i → i < count
   unfolding number_of
   found_low {i} h = omega (arith, find_low (spelled text place end) 0 (entries text table count) (sym (rw h at f.is)), length-entries text table count)
 
-  found_at : {i : ℕ} → r ≡ At i → (d : Declared) → get_or (entries text table count) i d ≡ entry text table i
+  found_none : false ≡ is_some r → find (spelled text place end) 0 (entries text table count) ≡ none
+  unfolding number_of
+  found_none h = sym f.is ∙ go r h
+    where
+      go : (r : Found ℕ) → false ≡ is_some r → number_of r ≡ none
+      go (Some i) h = absurd (true≢false (sym h))
+      go None h = refl
+
+  found_at : {i : ℕ} → r ≡ Some i → (d : Declared) → get_or (entries text table count) i d ≡ entry text table i
   found_at {i} h d = entries_at text table count i d (found_low h)
 
-module _ {text table : List ℕ} {at : Point} {place end : ℕ} {r : Found} (f : Finds text table at.count place end r) {j : ℕ} {before after : List ℕ} where
-  pub name_5 : r ≡ Nothing → TypesName at place end text table j before after (Refused UnknownName place)
+module _ {text table : List ℕ} {at : Point} {place end : ℕ} {r : Found ℕ} (f : Finds text table at.count place end r) {j : ℕ} {before after : List ℕ} where
+  pub name_5 : r ≡ None → TypesName at place end text table j before after (Err (record { refusal = UnknownName; place = place }))
   unfolding step variable_named number_of
   name_5 h = node_refused (rw (← f.is, h))
 
-  module _ {i n : ℕ} {b : Bool} (h : r ≡ At i) (en : n ≡ word_of table i lanes_column) (eb : b ≡ fits at.context n) where
-    pub name_9 : b ≡ false → TypesName at place end text table j before after (Refused WrongLength place)
+  module _ {i n : ℕ} (h : r ≡ Some i) (en : n ≡ word_of table i lanes_column) where
+    pub name_9 : false ≡ fits at.context n → TypesName at place end text table j before after (Err (record { refusal = WrongLength; place = place }))
     unfolding step variable_named number_of declared entry
-    name_9 q = node_refused (rw (← f.is, h) (rw (found_at f h, ← en, ← eb, q)))
+    name_9 q = node_refused (rw (← f.is, h) (rw (found_at f h, ← en, ← q)))
 
-    pub name_ok : {k : Kind} → b ≡ true → k ≡ kind_of (word_of table i kind_column) → after ≡ with_slot before j (kind_number k) n i → j * 3 + 3 ≤ length before
-        → TypesName at place end text table j before after (Done (j + 1) at.size)
+    pub name_ok : {k : Kind} → true ≡ fits at.context n → k ≡ kind_of (word_of table i kind_column) → after ≡ with_slot before j (kind_number k) n i → j * 3 + 3 ≤ length before
+        → TypesName at place end text table j before after (Ok (record { count = j + 1; size = at.size }))
     unfolding step variable_named number_of declared entry
-    name_ok q ek ea room = node_put ea room (rw (← f.is, h) (rw (found_at f h, ← en, ← eb, q) (rw ek)))
+    name_ok q ek ea room = node_put ea room (rw (← f.is, h) (rw (found_at f h, ← en, ← q) (rw ek)))
 
 -- ---- an operand
 -- The nodes that take no operands, by their words.
@@ -112,7 +121,7 @@ pub data Puts (C a : ℕ) : ℕ → Kind → ℕ → ℕ → Type 0 where
 
 pub constant_on : {text : List ℕ} {at : Point} {a b j : ℕ} {l : List Slot} {Γ : Declarations} {before after : List ℕ} {tag m w : ℕ} {k : Kind} {n : TreeNode}
     → j * 3 + 3 ≤ length before → Puts at.context a tag k m w → Operand text a b tag n → after ≡ with_slot before j (kind_number k) m w
-    → TypesNode at n l Γ j before after (Done (j + 1) at.size)
+    → TypesNode at n l Γ j before after (Ok (record { count = j + 1; size = at.size }))
 unfolding step bit
 constant_on room number is_number e = node_put e room refl
 constant_on room float_number is_float e = node_put e room refl
@@ -195,26 +204,28 @@ module _ {text : List ℕ} {at : Point} {p q t b h : ℕ} {Γ : Declarations} {b
           rw (w, ← ep) (rw (same, all) at (f Γ))
 
 -- ---- a declaration
-module _ {text T U : List ℕ} {at : Point} {place end n : ℕ} {k : Kind} {b : Bool} (eb : b ≡ fits at.context n) where
-  pub declare_9 : b ≡ false → DeclaresName at k n place end text T U (Refused WrongLength place)
+module _ {text T U : List ℕ} {at : Point} {place end n : ℕ} {k : Kind} where
+  pub declare_9 : false ≡ fits at.context n → DeclaresName at k n place end text T U (Err (record { refusal = WrongLength; place = place }))
   unfolding number_out declare_name
-  declare_9 q = record { is = rw (← eb, q); on = λ m z q. absurd (let y : ◌≡◌ {A = ℕ} 0 1 = cc in omega arith) }
+  declare_9 e = record { is = rw (← e); on = tt }
 
-  module _ (q : b ≡ true) {r : Found} (f : Finds text T at.count place end r) where
-    pub declare_6 : {i : ℕ} → r ≡ At i → DeclaresName at k n place end text T U (Refused AlreadyOpen place)
+  module _ (e : true ≡ fits at.context n) where
+    pub declare_6 : {r : Found ℕ} → Finds text T at.count place end r → true ≡ is_some r → DeclaresName at k n place end text T U (Err (record { refusal = AlreadyOpen; place = place }))
     unfolding number_out declare_name number_of
-    declare_6 h = record { is = rw (← eb, q, ← f.is, h); on = λ m z q. absurd (let y : ◌≡◌ {A = ℕ} 0 1 = cc in omega arith) }
+    declare_6 {r = Some i} f h = record { is = rw (← e, ← f.is); on = tt }
+    declare_6 {r = None} f h = absurd (true≢false h)
 
-    pub declare_11 : r ≡ Nothing → declaration_limit ≤ at.count → DeclaresName at k n place end text T U (Refused TooManyDeclarations place)
-    unfolding number_out declare_name number_of
-    declare_11 h l = record { is = rw (← eb, q, ← f.is, h, length-entries text T at.count, le-ltb at.count declaration_limit l); on = λ m z q. absurd (let y : ◌≡◌ {A = ℕ} 0 1 = cc in omega arith) }
+    module _ {r : Found ℕ} (f : Finds text T at.count place end r) (h : false ≡ is_some r) where
+      pub declare_11 : declaration_limit ≤ at.count → DeclaresName at k n place end text T U (Err (record { refusal = TooManyDeclarations; place = place }))
+      unfolding number_out declare_name
+      declare_11 l = record { is = rw (← e, found_none f h, length-entries text T at.count, le-ltb at.count declaration_limit l); on = tt }
 
-    pub declare_ok : {a : ℕ} → r ≡ Nothing → at.count < declaration_limit → Rows text T at.count → Spans text place end → ListedLength n → a ≡ next_multiple (end_of T at.count) (whole k n) → U ≡ with_row T at.count place end (kind_number k) n a
-        → DeclaresName at k n place end text T U (Done (at.count + 1) at.size)
-    unfolding number_out declare_name number_of
-    declare_ok h l s w m ea eu =
-        let more : Added T U at.count place end (kind_number k) n (next_multiple (end_of T at.count) (whole k n)) = rw (eu, ea) (added T at.count place end (kind_number k) n (next_multiple (end_of T at.count) (whole k n)) (omega (arith, s.room))) in
-        record {
-          is = rw (added_entries text k more, ← eb, q, ← f.is, h, length-entries text T at.count, lt-ltb at.count declaration_limit l) (rw (length-entries text T at.count));
-          on = λ j z e. let up : j ≡ at.count + 1 = cc in record { one_more = up; size = cc; rows = rw up (added_rows text k more s l w m) };
-        }
+      pub declare_ok : {a : ℕ} → at.count < declaration_limit → Rows text T at.count → Spans text place end → ListedLength n → a ≡ next_multiple (end_of T at.count) (whole k n) → U ≡ with_row T at.count place end (kind_number k) n a
+          → DeclaresName at k n place end text T U (Ok (record { count = at.count + 1; size = at.size }))
+      unfolding number_out declare_name
+      declare_ok l s w m ea eu =
+          let more : Added T U at.count place end (kind_number k) n (next_multiple (end_of T at.count) (whole k n)) = rw (eu, ea) (added T at.count place end (kind_number k) n (next_multiple (end_of T at.count) (whole k n)) (omega (arith, s.room))) in
+          record {
+            is = rw (added_entries text k more, ← e, found_none f h, length-entries text T at.count, lt-ltb at.count declaration_limit l) (rw (length-entries text T at.count));
+            on = record { one_more = refl; size = refl; rows = added_rows text k more s l w m };
+          }

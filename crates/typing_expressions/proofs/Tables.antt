@@ -1,5 +1,5 @@
 -- The table of declarations: addresses, a row that is written behind the others, and the rows of a scope that are closed.
-use Prim.Native.Nat.{ℕ, zero, suc, ◌+◌, ◌-◌, ◌*◌, ◌/◌, ◌≤◌, ◌<◌}
+use Prim.Native.Nat.{ℕ, zero, suc, ◌+◌, ◌-◌, ◌*◌, ◌/◌, ◌%◌, ◌≤◌, ◌<◌}
 use native.Mathlib.Omega.{arith}
 use native.Mathlib.Nat.{add-zero, mul_comm, mul_assoc, mul-le-mul_right, suc-mul, div-add-mod', mod-lt, div-lt_iff_lt-mul}
 use native.Mathlib.Numerals.{add-one}
@@ -9,6 +9,7 @@ use mathlib.Core.List.{List, [], ◌∷◌, ◌++◌, map, map-append, append-ni
 use lib.Dec.{leb}
 use lib.ListN.{length, get_or, take, drop, set, length-set, drop_of_length-le}
 use lib.Seq.{sets, length-sets, get_or-set_same, get_or-set_other, take_all, take-append-le, drop-append-le}
+use Rattle.std.proofs.lemmas.Nat.{div-mul-add}
 use borrow.Author.Count.{below_more}
 use borrow.Author.Tests.{leb-true, leb-false}
 use Rattle.meaning.specs.declared.Kind.{Kind}
@@ -78,6 +79,13 @@ module _ {s : ℕ} (z : Size s) (end : ℕ) where
       let e : whole_limit * c ≡ c * z.times * s = mul_comm whole_limit c ∙ rw (← z.is) (sym (mul_assoc c z.times s)) in
       let q : (end + (s - 1)) / s < suc (c * z.times) = (div-lt_iff_lt-mul z.some).1 (rw (suc-mul (c * z.times) s, ← e) (omega (arith, z.some))) in
       rw e (mul-le-mul_right s (omega arith))
+
+-- What the library rounds an end up to is the next multiple.
+pub rounded : (r end s : ℕ) → 0 < s → end ≤ r → r < end + s → r % s ≡ 0 → r ≡ next_multiple end s
+unfolding next_multiple
+rounded r end s p low high e =
+    let up : end + (s - 1) ≡ r / s * s + (end + (s - 1) - r) = omega (arith, div-add-mod' r s) in
+    rw (up, div-mul-add (r / s) s (end + (s - 1) - r) (omega arith)) (omega (arith, div-add-mod' r s))
 
 pub need-entries : (text table : List ℕ) (n : ℕ) → need (entries text table n) ≡ end_of table n
 unfolding entries entry end_of need

@@ -1,17 +1,13 @@
 -- The tags of nodes as numbers, and what the tests of the code on them say of kinds and operators.
-use Prim.Native.Nat.{ℕ, ◌*◌, ◌≤◌, ◌<◌}
+use Prim.Native.Nat.{ℕ, ◌≤◌, ◌<◌}
 use native.Mathlib.Omega.{arith}
-use mathlib.Core.Path.{◌≡◌, refl, sym, ap, ◌∙◌}
-use mathlib.Core.Bool.{Bool, true, false, ◌||◌, or-false, true≢false}
-use mathlib.Core.Logic.{inl, inr}
-use mathlib.Core.List.{List, [], ◌∷◌, map}
+use mathlib.Core.Path.{◌≡◌, refl, sym, ◌∙◌}
+use mathlib.Core.Bool.{true, false, ◌||◌, or-false, true≢false}
+use mathlib.Core.List.{[], ◌∷◌}
 use lib.Dec.{eqb}
-use lib.ListN.{length, get_or, drop, replicate}
-use denote.Enum.Declared.{tag_of}
-use types.Run.{OneOf, miss}
+use denote.Enum.Bare.{sameb}
 use borrow.Author.Tests.{ne_eqb}
 use Rattle.meaning.specs.contracts.Kind as its_kinds
-use Rattle.meaning.specs.contracts.Binary as its_operators
 use Rattle.meaning.specs.declared.Kind.{Kind}
 use Rattle.meaning.specs.declared.Kind.TheVariants.{Int as int, Bool as bool, Float as float}
 use Rattle.meaning.specs.Tokens.{the, numbered, reserved, words, signs, marks}
@@ -20,67 +16,38 @@ use Rattle.meaning.specs.declared.Unary.TheVariants.{Neg as neg, Inv as inv, Not
 use Rattle.meaning.specs.declared.Binary.{Binary}
 use Rattle.meaning.specs.declared.Binary.TheVariants.{Or as or, Xor as xor, And as and, Eq as eq, Ne as ne, Lt as lt, Gt as gt, Le as le, Ge as ge, Add as add, Sub as sub, Mul as mul}
 use Rattle.meaning.specs.Tree.{kind_number, same_kind, ◌one_of◌, Gives, a_bool, its_kind, table, unary_table}
-use Rattle.meaning.specs.Memory.{whole, size}
+use Rattle.meaning.specs.Memory.{size}
 use Rattle.meaning.specs.Typing.{gives_kind}
 use Rattle.layout.specs.Words.{binary_tag, unary_tag, boolean_tag}
 use Rattle.typing_expressions.specs.Nodes.{TreeNode, a_number, a_float, a_boolean, a_name, a_mask, a_unary, a_binary, node_tag, node_first, code_tag, code_place, arity, a_bool?}
 
 -- ---- kinds
-pub same_kind_is : (a b : Kind) → eqb (kind_number a) (kind_number b) ≡ same_kind a b
-unfolding same_kind
-same_kind_is a b = refl
+-- The code's `==` on kinds is the definition's.
+pub same_is : (k l : Kind) → sameb its_kinds.the_type k l ≡ same_kind k l
+unfolding same_kind kind_number
+same_is int int = refl
+same_is int bool = refl
+same_is int float = refl
+same_is bool int = refl
+same_is bool bool = refl
+same_is bool float = refl
+same_is float int = refl
+same_is float bool = refl
+same_is float float = refl
 
 -- The only kind of a list.
-pub only_kind : (k l : Kind) → same_kind k l ≡ (k one_of (l ∷ []))
+pub only_kind : (k l : Kind) → sameb its_kinds.the_type k l ≡ (k one_of (l ∷ []))
 unfolding ◌one_of◌
-only_kind k l = sym (or-false (same_kind k l))
+only_kind k l = rw (or-false (same_kind k l)) (same_is k l)
 
--- The only two kinds of a list.
-pub either_kind : (k l m : Kind) → (same_kind k l || same_kind k m) ≡ (k one_of (l ∷ m ∷ []))
-unfolding ◌one_of◌
-either_kind k l m = rw (or-false (same_kind k m))
-
--- Of an int and of a float each lane has four bytes.
-pub four_bytes : (k : Kind) (n : ℕ) → OneOf (0 ∷ 2 ∷ []) (tag_of its_kinds.the_type k) → n * 4 ≡ whole k n
-unfolding whole size
-four_bytes int n h = refl
-four_bytes bool n h = absurd (miss (0 ∷ 2 ∷ []) 1 tt h)
-four_bytes float n h = refl
+-- A lane has four bytes at most.
+pub size_few : (k : Kind) → size k ≤ 4
+unfolding size
+size_few int = omega arith
+size_few bool = omega arith
+size_few float = omega arith
 
 -- ---- operators
--- The binary operators in the order of their numbers.
-abbrev operators : List Binary
-operators = or ∷ xor ∷ and ∷ eq ∷ ne ∷ lt ∷ gt ∷ le ∷ ge ∷ add ∷ sub ∷ mul ∷ []
-
-back : (o : Binary) → get_or operators (tag_of its_operators.the_type o) or ≡ o
-back or = refl
-back xor = refl
-back and = refl
-back eq = refl
-back ne = refl
-back lt = refl
-back gt = refl
-back le = refl
-back ge = refl
-back add = refl
-back sub = refl
-back mul = refl
-
--- Does an operator take two of a kind?
-abbrev pub takes : Kind → Binary → Bool
-takes k o = k one_of (table o).1
-
--- An arm of a match has the numbers of a list: what f is of each of them it is of the operator that the arm is for.
-module _ (f : Binary → Bool) (b : Bool) where
-  among : (l : List ℕ) → map (λ k. f (get_or operators k or)) l ≡ replicate (length l) b → (n : ℕ) → OneOf l n → b ≡ f (get_or operators n or)
-  among [] e n h = absurd h
-  among (k ∷ []) e n h = rw h (sym (ap (λ w. get_or w 0 b) e))
-  among (k ∷ k' ∷ l) e n (inl h) = rw h (sym (ap (λ w. get_or w 0 b) e))
-  among (k ∷ k' ∷ l) e n (inr h) = among (k' ∷ l) (ap (drop 1) e) n h
-
-  pub on_arm : (l : List ℕ) → map (λ k. f (get_or operators k or)) l ≡ replicate (length l) b → (o : Binary) → OneOf l (tag_of its_operators.the_type o) → b ≡ f o
-  on_arm l e o h = among l e (tag_of its_operators.the_type o) h ∙ ap f (back o)
-
 -- Binary operators have tags from 48 to 127, unary ones from 128 on.
 pub binary_range : (o : Binary) → (48 ≤ binary_tag o) × (binary_tag o < 128)
 unfolding binary_tag table the numbered reserved words signs marks
@@ -192,19 +159,19 @@ module _ {tag : ℕ} where
   coded_same (a_binary p o) h t = sym h
 
   -- An operator's place stands in its second word.
-  pub placed-leaf : (n : TreeNode) → node_tag n ≡ tag → tag < 48 → 0 ≡ code_place n
+  pub placed_leaf : (n : TreeNode) → node_tag n ≡ tag → tag < 48 → 0 ≡ code_place n
   unfolding node_tag code_place
-  placed-leaf (a_number n) h l = refl
-  placed-leaf (a_float n) h l = refl
-  placed-leaf (a_boolean b) h l = refl
-  placed-leaf (a_name p x) h l = refl
-  placed-leaf a_mask h l = refl
-  placed-leaf (a_unary p o) h l = absurd (omega (arith, unary_low o))
-  placed-leaf (a_binary p o) h l = absurd (omega (arith, (binary_range o).0))
+  placed_leaf (a_number n) h l = refl
+  placed_leaf (a_float n) h l = refl
+  placed_leaf (a_boolean b) h l = refl
+  placed_leaf (a_name p x) h l = refl
+  placed_leaf a_mask h l = refl
+  placed_leaf (a_unary p o) h l = absurd (omega (arith, unary_low o))
+  placed_leaf (a_binary p o) h l = absurd (omega (arith, (binary_range o).0))
 
-  pub placed-operator : (n : TreeNode) {p : ℕ} → node_tag n ≡ tag → node_first n ≡ p → 48 ≤ tag → p ≡ code_place n
+  pub placed_operator : (n : TreeNode) {p : ℕ} → node_tag n ≡ tag → node_first n ≡ p → 48 ≤ tag → p ≡ code_place n
   unfolding node_first code_place
-  placed-operator n {p} h f l = go (class n) h f
+  placed_operator n {p} h f l = go (class n) h f
     where
       go : {n : TreeNode} → Class n → node_tag n ≡ tag → node_first n ≡ p → p ≡ code_place n
       go (leaf n s e) h f = absurd (omega arith)

@@ -23,12 +23,14 @@ use Rattle.layout.specs.Words.{unit, binary_tag, unary_tag, flat}
 use Rattle.layout.specs.Code.{code_words}
 use Rattle.layout.specs.Stack.{slot_kind, slot_lanes, slot_word}
 use Rattle.layout.specs.Table.{kind_of, entries}
-use Rattle.layout.specs.declared.Stage.{Stage}
-use Rattle.layout.specs.declared.Stage.TheVariants.{Done, Refused}
+use Rattle.layout.specs.Stage.{Stage}
+use Rattle.layout.specs.declared.Reached.{Reached}
+use Rattle.layout.specs.declared.Refused.{Refused}
+use Rattle.std.specs.declared.result.Result.TheVariants.{Ok, Err}
 use Rattle.laws.specs.Sound.{Spelled, stack as height, stack_limit, InText, of_number, of_float, of_boolean, of_name, of_mask, of_unary, of_binary}
 use Rattle.typing_expressions.specs.declared.Point.{Point}
 use Rattle.typing_expressions.specs.Nodes.{TreeNode, a_number, a_float, a_boolean, a_name, a_mask, a_unary, a_binary, nodes, node_tag, node_first, node_second, nodes_words, code_tag, code_place, arity, Entry, entry_at, Slot, step, slots, NodeAt}
-use Rattle.typing_expressions.specs.Answers.{ThereIs, Expression, entry_out, Pushed, TypesNode, TypesAt, CodesAs, CodesAt, typed_out, TypingRoom, TypesAs, TypesExpression}
+use Rattle.typing_expressions.specs.Answers.{ThereIs, Expression, entry_out, TypesNode, TypesAt, CodesAs, CodesAt, typed_out, TypingRoom, TypesAs, TypesExpression}
 
 -- ---- nodes and words
 words_append : (l m : List TreeNode) → nodes_words (l ++ m) ≡ nodes_words l ++ nodes_words m
@@ -257,36 +259,39 @@ module _ {text tree : List ℕ} {Γ : Declarations} {at : Point} {before code st
     unfolding run
     stepped = g.on ∙ rw x.is (rw s.is)
 
-    pub going_refused : {c : Refusal} {p : ℕ} (code' stack'' : List ℕ) (end : ℕ) → r ≡ Refused c p → TypesAs before code' stack'' at.count end Γ r (typed at.context e Γ)
+  module _ {stack' : List ℕ} (x : NodeHere text tree i h g.rest) where
+    pub going_refused : {why : Refused} (code' stack'' : List ℕ) (end : ℕ) → TypesNode at x.node (slots stack h) Γ (h - arity x.node) stack stack' (Err why)
+        → TypesAs before code' stack'' at.count end Γ (Err why) (typed at.context e Γ)
     unfolding entry_out typed_out
-    going_refused {c} {p} code' stack'' end q = record {
+    going_refused code' stack'' end s = record {
       becomes = constant 0;
-      is = rw q (sym (after_refused (λ a. entered a (way [] before)) (typed at.context e Γ) (sym (walked at.context e (way [] before) Γ) ∙ stepped ∙ rw q)));
-      on = λ n z w. absurd (let y : ◌≡◌ {A = ℕ} 0 1 = cc in omega arith);
+      is = sym (after_refused (λ a. entered a (way [] before)) (typed at.context e Γ) (sym (walked at.context e (way [] before) Γ) ∙ stepped x s));
+      on = tt;
     }
 
-    pub going_next : {m y t w z : ℕ} → r ≡ Done m y → t ≡ code_tag x.node → w ≡ slot_word stack' (m - 1) → z ≡ code_place x.node → at.size + i + 3 ≤ length code
-        → TypingFrom text tree Γ at before (sets code (at.size + i) (unit t w z)) stack' (i + 3) m e
+    pub going_next : {reached : Reached} {t w z : ℕ} → TypesNode at x.node (slots stack h) Γ (h - arity x.node) stack stack' (Ok reached)
+        → t ≡ code_tag x.node → w ≡ slot_word stack' (reached.count - 1) → z ≡ code_place x.node → at.size + i + 3 ≤ length code
+        → TypingFrom text tree Γ at before (sets code (at.size + i) (unit t w z)) stack' (i + 3) reached.count e
     unfolding entry_out slots
-    going_next {m} {y} {t} {w} {z} q et ew ez room = record {
+    going_next {reached} {t} {w} {z} s et ew ez room = record {
       rest = x.others;
       from_here = x.then;
       fits = rw up x.fits;
-      on = stepped ∙ rw (q, slots-drop stack (arity x.node) h x.at.operands, ← put.under, ← et, ← ez, ← its_word)
+      on = stepped x s ∙ rw (slots-drop stack (arity x.node) h x.at.operands, ← s.on.under, ← et, ← ez, ← its_word)
           (rw (written, top));
     }
       where
-        put : Pushed at (h - arity x.node) stack stack' m y
-        put = s.on m y q
+        m : ℕ
+        m = reached.count
 
         up : m ≡ h + 1 - arity x.node
-        up = omega (arith, put.height, x.at.operands)
+        up = omega (arith, s.on.height, x.at.operands)
 
         its_word : w ≡ slot_word stack' (h - arity x.node)
-        its_word = let e : m - 1 ≡ h - arity x.node = omega (arith, put.height) in rw e at ew
+        its_word = let e : m - 1 ≡ h - arity x.node = omega (arith, s.on.height) in rw e at ew
 
         top : m ≡ suc (h - arity x.node)
-        top = omega (arith, put.height)
+        top = omega (arith, s.on.height)
 
         three : at.size + (i + 3) ≡ at.size + i + 3
         three = omega arith
@@ -305,7 +310,7 @@ module _ {text tree : List ℕ} {Γ : Declarations} {at : Point} {before code st
       go [] q o = o
       go (n ∷ m) q o = absurd (omega (arith, length-drop i tree, ap length q))
 
-  pub going_end : i ≡ length tree → TypesAs before code stack at.count (at.size + length tree) Γ (Done at.count (at.size + length tree)) (typed at.context e Γ)
+  pub going_end : i ≡ length tree → TypesAs before code stack at.count (at.size + length tree) Γ (Ok (record { count = at.count; size = at.size + length tree })) (typed at.context e Γ)
   unfolding typed_out slots
   going_end l =
       let a = after_ok (λ a. entered a (way [] before)) (typed at.context e Γ) (sym (walked at.context e (way [] before) Γ) ∙ ended (omega arith)) in
@@ -314,7 +319,7 @@ module _ {text tree : List ℕ} {Γ : Declarations} {at : Point} {before code st
       record {
         becomes = a.0.code;
         is = rw (← top.0, ← top.1) (sym a.1);
-        on = λ n z q. record { none_new = cc; ends = cc; words = ap (λ j. take (at.size + j) code) (sym l) ∙ sym (ap (λ v. v.words) a.2) };
+        on = record { none_new = refl; ends = refl; words = ap (λ j. take (at.size + j) code) (sym l) ∙ sym (ap (λ v. v.words) a.2) };
       }
     where
       only : {b : Kind} {m : ℕ} (h : ℕ) → (b, m) ∷ [] ≡ slots stack h → (b ≡ kind_of (slot_kind stack 0)) × (m ≡ slot_lanes stack 0)
@@ -356,11 +361,7 @@ pub record NodeRoom (tree code stack : List ℕ) (size i m : ℕ) : Type 0 where
   pub high : m ≤ stack_limit
 
 module _ {text tree table : List ℕ} {at : Point} {code₀ stack₀ code stack : List ℕ} {i h : ℕ} (g : Walking text tree table at code₀ stack₀ code stack i h) where
-  -- The stack has its room still.
-  pub walking_high : (h ≤ stack_limit) × (stack_limit * 3 ≤ length stack)
-  walking_high = (g.high, omega (arith, g.room.stack_room, g.stack_long))
-
-  pub walking_end : i ≡ length tree → TypesExpression (typed at.context) at text tree table code₀ code stack (Done at.count (at.size + length tree))
+  pub walking_end : i ≡ length tree → TypesExpression (typed at.context) at text tree table code₀ code stack (Ok (record { count = at.count; size = at.size + length tree }))
   walking_end l e x = going_end (g.on e x) l
 
   module _ (l : i < length tree) where
@@ -370,35 +371,35 @@ module _ {text tree table : List ℕ} {at : Point} {code₀ stack₀ code stack 
     pub walking_node : ThereIs (NodeAt text tree i h)
     walking_node = its
 
-    module _ {r : Stage} {stack' : List ℕ} (s : TypesAt at i h text tree table stack stack' r) where
-      pub walking_refused : {c : Refusal} {p : ℕ} (code' stack'' : List ℕ) → r ≡ Refused c p → TypesExpression (typed at.context) at text tree table code₀ code' stack'' r
-      walking_refused code' stack'' q e x = let y = going_here (g.on e x) l in going_refused (g.on e x) y (s y.node y.at) code' stack'' (at.size + length tree) q
+    pub walking_refused : {why : Refused} {stack' : List ℕ} (code' stack'' : List ℕ) → TypesAt at i h text tree table stack stack' (Err why)
+        → TypesExpression (typed at.context) at text tree table code₀ code' stack'' (Err why)
+    walking_refused code' stack'' s e x = let y = going_here (g.on e x) l in going_refused (g.on e x) y code' stack'' (at.size + length tree) (s y.node y.at)
 
-      module _ {m z : ℕ} (q : r ≡ Done m z) (same : length stack' ≡ length stack) where
-        pub walking_room : NodeRoom tree code stack' at.size i m
-        walking_room =
-            let n = its in
-            let up = ((s n.the n.is).on m z q).height in
-            record {
-              words = n.is.inside;
-              unit = omega (arith, n.is.inside, g.room.code_room, g.code_long);
-              some = omega arith;
-              slot = omega (arith, n.is.operands, n.is.fits, g.room.stack_room, g.stack_long, limit);
-              high = omega (arith, n.is.operands, n.is.fits);
-            }
+    module _ {reached : Reached} {stack' : List ℕ} (s : TypesAt at i h text tree table stack stack' (Ok reached)) (same : length stack' ≡ length stack) where
+      pub walking_room : NodeRoom tree code stack' at.size i reached.count
+      walking_room =
+          let n = its in
+          let up = (s n.the n.is).on.height in
+          record {
+            words = n.is.inside;
+            unit = omega (arith, n.is.inside, g.room.code_room, g.code_long);
+            some = omega arith;
+            slot = omega (arith, n.is.operands, n.is.fits, g.room.stack_room, g.stack_long, limit);
+            high = omega (arith, n.is.operands, n.is.fits);
+          }
 
-        pub walking_next : {t w v : ℕ} {code' : List ℕ} → CodesAs (get_or tree i 0) t → w ≡ slot_word stack' (m - 1) → CodesAt tree i v → code' ≡ sets code (at.size + i) (unit t w v)
-            → Walking text tree table at code₀ stack₀ code' stack' (i + 3) m
-        walking_next {t} {w} {v} {code'} ft ew fv ec =
-            let room = walking_room in
-            record {
-              room = g.room;
-              some = g.some;
-              code_long = rw ec (length-sets code (at.size + i) (unit t w v) ∙ g.code_long);
-              stack_long = same ∙ g.stack_long;
-              inside = room.words;
-              high = room.high;
-              on = λ e x.
-                  let y = going_here (g.on e x) l in
-                  rw ec (going_next (g.on e x) y (s y.node y.at) q (ft y.node y.at.is.tag_is) ew (fv y.node y.at.is.tag_is y.at.is.first_is) room.unit);
-            }
+      pub walking_next : {t w v : ℕ} {code' : List ℕ} → CodesAs (get_or tree i 0) t → w ≡ slot_word stack' (reached.count - 1) → CodesAt tree i v → code' ≡ sets code (at.size + i) (unit t w v)
+          → Walking text tree table at code₀ stack₀ code' stack' (i + 3) reached.count
+      walking_next {t} {w} {v} {code'} ft ew fv ec =
+          let room = walking_room in
+          record {
+            room = g.room;
+            some = g.some;
+            code_long = rw ec (length-sets code (at.size + i) (unit t w v) ∙ g.code_long);
+            stack_long = same ∙ g.stack_long;
+            inside = room.words;
+            high = room.high;
+            on = λ e x.
+                let y = going_here (g.on e x) l in
+                rw ec (going_next (g.on e x) y (s y.node y.at) (ft y.node y.at.is.tag_is) ew (fv y.node y.at.is.tag_is y.at.is.first_is) room.unit);
+          }

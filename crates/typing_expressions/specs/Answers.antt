@@ -1,5 +1,5 @@
 -- What the answers of typing say: one definition turns each into the definition's outcome.
-use Rattle.std.specs.Prelude.{ℕ, ◌+◌, ◌-◌, ◌*◌, ◌≤◌, ◌≡◌, List, [], ◌++◌, length, get_or, take}
+use Rattle.std.specs.Prelude.{ℕ, ◌+◌, ◌-◌, ◌*◌, ◌≤◌, ◌≡◌, List, [], ◌++◌, length, get_or, take, IfOk}
 use Rattle.meaning.specs.declared.Kind.{Kind}
 use Rattle.meaning.specs.declared.Unary.{Unary}
 use Rattle.meaning.specs.declared.Binary.{Binary}
@@ -13,8 +13,8 @@ use Rattle.layout.specs.Code.{code_words}
 use Rattle.layout.specs.Sizes.{tree_limit}
 use Rattle.layout.specs.Stack.{slot_words, slot_kind, slot_lanes}
 use Rattle.layout.specs.Table.{kind_of, entries}
-use Rattle.layout.specs.declared.Stage.{Stage}
-use Rattle.layout.specs.declared.Stage.TheVariants.{Done, Refused}
+use Rattle.layout.specs.Stage.{Stage}
+use Rattle.std.specs.declared.result.Result.TheVariants.{Ok, Err}
 use Rattle.laws.specs.Sound.{Sound, stack_limit}
 use Rattle.typing_expressions.specs.declared.Point.{Point}
 use Rattle.typing_expressions.specs.Rows.{Rows, ListedLength, spelled}
@@ -41,8 +41,8 @@ pub record TypingRoom (text tree table code stack : List ℕ) (at : Point) : Typ
 -- ---- a node
 -- The answer for a node whose result is x.
 unfoldable pub entry_out : Stage → Entry → Declarations → Out Declarations Entry
-entry_out (Done n z) x Γ = ok x Γ
-entry_out (Refused c p) x Γ = refused c p
+entry_out (Ok reached) x Γ = ok x Γ
+entry_out (Err why) x Γ = refused why.refusal why.place
 
 -- With a result in slot b of the stack, those under it are as before, the stack is h high and the code still has the words of the point.
 pub record Pushed (at : Point) (b : ℕ) (before after : List ℕ) (h z : ℕ) : Type 0 where
@@ -53,7 +53,7 @@ pub record Pushed (at : Point) (b : ℕ) (before after : List ℕ) (h z : ℕ) :
 -- A node was typed at a point as the definition says, over the operands l, and its result stands in slot b.
 pub record TypesNode (at : Point) (n : TreeNode) (l : List Slot) (Γ : Declarations) (b : ℕ) (before after : List ℕ) (r : Stage) : Type 0 where
   pub is : entry_out r (entry_at after b) Γ ≡ step at.context n l Γ
-  pub on : (h z : ℕ) → r ≡ Done h z → Pushed at b before after h z
+  pub on : IfOk r (λ reached. Pushed at b before after reached.count reached.size)
 
 -- The name from a place to an end was.
 abbrev pub TypesName : Point → ℕ → ℕ → List ℕ → List ℕ → ℕ → List ℕ → List ℕ → Stage → Type 0
@@ -86,8 +86,8 @@ CodesAt tree i r = (n : TreeNode) → node_tag n ≡ get_or tree i 0 → node_fi
 -- ---- an expression
 -- The answer for an expression that becomes x: its kind and its length stand in the stack's first slot.
 unfoldable pub typed_out : Stage → Code → List ℕ → Declarations → Out Declarations T.Typed
-typed_out (Done n z) x stack Γ = ok (record { code = x; kind = kind_of (slot_kind stack 0); lanes = slot_lanes stack 0 }) Γ
-typed_out (Refused c p) x stack Γ = refused c p
+typed_out (Ok reached) x stack Γ = ok (record { code = x; kind = kind_of (slot_kind stack 0); lanes = slot_lanes stack 0 }) Γ
+typed_out (Err why) x stack Γ = refused why.refusal why.place
 
 -- There are as many declarations as before, and z words of code: those of x behind those before, as many as its tree has.
 pub record TypedTo (before code : List ℕ) (count end n z : ℕ) (x : Code) : Type 0 where
@@ -99,7 +99,7 @@ pub record TypedTo (before code : List ℕ) (count end n z : ℕ) (x : Code) : T
 pub record TypesAs (before code stack : List ℕ) (count end : ℕ) (Γ : Declarations) (r : Stage) (out : Out Declarations T.Typed) : Type 0 where
   pub becomes : Code
   pub is : typed_out r becomes stack Γ ≡ out
-  pub on : (n z : ℕ) → r ≡ Done n z → TypedTo before code count end n z becomes
+  pub on : IfOk r (λ reached. TypedTo before code count end reached.count reached.size becomes)
 
 -- The expression whose words are the tree was typed at a point as a definition says.
 abbrev pub TypesExpression : (Expr → T.Types T.Typed) → Point → List ℕ → List ℕ → List ℕ → List ℕ → List ℕ → List ℕ → Stage → Type 0
@@ -110,8 +110,8 @@ TypesExpression definition at text tree table before after stack r =
 -- ---- a declaration
 -- The answer for a declaration whose number is i.
 unfoldable pub number_out : Stage → ℕ → Declarations → Out Declarations ℕ
-number_out (Done n z) i Γ = ok i Γ
-number_out (Refused c p) i Γ = refused c p
+number_out (Ok reached) i Γ = ok i Γ
+number_out (Err why) i Γ = refused why.refusal why.place
 
 -- The table holds one declaration more than at a point, and the code as many words.
 pub record DeclaredTo (at : Point) (text table : List ℕ) (n z : ℕ) : Type 0 where
@@ -122,4 +122,4 @@ pub record DeclaredTo (at : Point) (text table : List ℕ) (n z : ℕ) : Type 0 
 -- The name from a place to an end was declared as the definition says, with a kind k and n lanes: it is the next one.
 pub record DeclaresName (at : Point) (k : Kind) (n place end : ℕ) (text before after : List ℕ) (r : Stage) : Type 0 where
   pub is : number_out r at.count (entries text after (at.count + 1)) ≡ T.declare_name at.context k n place (spelled text place end) (entries text before at.count)
-  pub on : (m z : ℕ) → r ≡ Done m z → DeclaredTo at text after m z
+  pub on : IfOk r (λ reached. DeclaredTo at text after reached.count reached.size)

@@ -1,15 +1,16 @@
 -- What the table of declarations keeps to while a text is typed, and what the search for a name answers.
-use Rattle.std.specs.Prelude.{ℕ, zero, suc, ◌+◌, ◌-◌, ◌*◌, ◌≤◌, ◌<◌, ◌≡◌, true, List, ◌++◌, map, length, take, drop}
+use Rattle.std.specs.Prelude.{ℕ, zero, suc, ◌+◌, ◌-◌, ◌*◌, ◌≤◌, ◌<◌, ◌≡◌, Bool, true, ◌&&◌, List, ◌++◌, map, length, take, drop}
 use Rattle.std.proofs.Math.Option.{Option, none, some}
 use Rattle.meaning.specs.Codes.{◌among◌, lengths, text_limit, declaration_limit}
+use Rattle.meaning.specs.Tokens.{equal}
 use Rattle.meaning.specs.Tree.{Name}
 use Rattle.meaning.specs.Memory.{Declarations, whole}
 use Rattle.meaning.specs.Typing.{find, shut}
 use Rattle.layout.specs.Sizes.{table_room}
-use Rattle.layout.specs.Table.{word_of, kind_of, entries, place_column, end_column, kind_column, lanes_column, address_column}
+use Rattle.layout.specs.Table.{word_of, kind_of, entry, entries, place_column, end_column, kind_column, lanes_column, address_column}
 use Rattle.laws.specs.Declarations.{whole_limit}
-use Rattle.typing_expressions.specs.declared.Found.{Found}
-use Rattle.typing_expressions.specs.declared.Found.TheVariants.{At, Nothing}
+use Rattle.std.specs.declared.option.Option.{Option as Found}
+use Rattle.std.specs.declared.option.Option.TheVariants.{Some, None}
 
 -- The bytes of a text from a place to an end.
 abbrev pub spelled : List ℕ → ℕ → ℕ → Name
@@ -40,13 +41,17 @@ pub record Rows (text table : List ℕ) (count : ℕ) : Type 0 where
   pub ends : (i : ℕ) → i < count → end_of table (suc i) ≤ end_of table count
   pub small : end_of table count ≤ whole_limit * count
 
+-- Is declaration i open, and has it this name?
+unfoldable pub is_named : List ℕ → List ℕ → ℕ → Name → Bool
+is_named text table i x = (entry text table i).open? && equal (entry text table i).name x
+
 -- The number that was found.
-unfoldable pub number_of : Found → Option ℕ
-number_of (At i) = some i
-number_of Nothing = none
+unfoldable pub number_of : Found ℕ → Option ℕ
+number_of (Some i) = some i
+number_of None = none
 
 -- The search has found what the definition finds: the open declaration of the name from a place to an end.
-pub record Finds (text table : List ℕ) (count place end : ℕ) (r : Found) : Type 0 where
+pub record Finds (text table : List ℕ) (count place end : ℕ) (r : Found ℕ) : Type 0 where
   pub is : number_of r ≡ find (spelled text place end) 0 (entries text table count)
 
 -- Declarations of which those from a number on are no longer open.

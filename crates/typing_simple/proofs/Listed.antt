@@ -16,8 +16,8 @@ use Rattle.meaning.specs.Typing as T
 use Rattle.meaning.specs.Typing.{typed, typed_condition, storable, find, fits, joined, variable_named}
 use Rattle.layout.specs.Stack.{slot_lanes}
 use Rattle.layout.specs.Table.{entry, entries}
-use Rattle.layout.specs.declared.Stage.{Stage}
-use Rattle.layout.specs.declared.Stage.TheVariants.{Done}
+use Rattle.layout.specs.declared.Reached.{Reached}
+use Rattle.std.specs.declared.result.Result.TheVariants.{Ok}
 use Rattle.typing_expressions.specs.Rows.{ListedLength, Rows}
 use Rattle.typing_expressions.specs.Answers.{TypesAs}
 use Rattle.typing_expressions.proofs.Names.{length-entries, entries_at}
@@ -99,9 +99,9 @@ module _ {C count : ℕ} {text table : List ℕ} (c : ListedLength C) (r : Rows 
       stored a g false y z = refusal tt
 
   -- The length of an answer.
-  module _ {before code stack : List ℕ} {m end : ℕ} {a : Stage} {n z : ℕ} (e : Expr) where
-    pub condition_listed : (p : ℕ) → TypesAs before code stack m end (entries text table count) a (typed_condition C p e (entries text table count)) → a ≡ Done n z → ListedLength (slot_lanes stack 0)
-    condition_listed p s q = (said (good_condition p e) (shows_ok s q)).1
+  module _ {before code stack : List ℕ} {m end : ℕ} {to : Reached} (e : Expr) where
+    pub condition_listed : (p : ℕ) → TypesAs before code stack m end (entries text table count) (Ok to) (typed_condition C p e (entries text table count)) → ListedLength (slot_lanes stack 0)
+    condition_listed p s = (said (good_condition p e) (shows_ok s)).1
 
-    pub valued-listed : (t : Target) → (eqb t.lanes 0 ≡ false → ListedLength t.lanes) → TypesAs before code stack m end (entries text table count) a (valued C t e (entries text table count)) → a ≡ Done n z → ListedLength (slot_lanes stack 0)
-    valued-listed t l s q = (said (good_valued t e l) (shows_ok s q)).1
+    pub valued-listed : (t : Target) → (eqb t.lanes 0 ≡ false → ListedLength t.lanes) → TypesAs before code stack m end (entries text table count) (Ok to) (valued C t e (entries text table count)) → ListedLength (slot_lanes stack 0)
+    valued-listed t l s = (said (good_valued t e l) (shows_ok s)).1

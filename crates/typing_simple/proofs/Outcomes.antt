@@ -2,15 +2,18 @@
 use Prim.Native.Nat.{ℕ, ◌≤◌, ◌<◌}
 use native.Mathlib.Omega.{arith}
 use mathlib.Core.Path.{◌≡◌, refl, sym, ap, ◌∙◌}
-use mathlib.Core.Bool.{Bool, true, false, not, ◌||◌, true≢false}
+use mathlib.Core.Logic.{◌⊎◌, inl, inr}
+use mathlib.Core.Bool.{or-true, Bool, true, false, not, ◌||◌, true≢false}
 use mathlib.Core.List.{List, []}
 use mathlib.Core.Option.{Option, none, some}
 use lib.Dec.{eqb}
 use lib.ListN.{length}
-use borrow.Author.Tests.{ne_eqb}
+use denote.Enum.Bare.{sameb}
+use borrow.Author.Tests.{eq-eqb, ne_eqb}
+use Rattle.std.proofs.lemmas.Bool.{not-true, not-false}
+use Rattle.meaning.specs.contracts.Kind.{the_type}
 use Rattle.meaning.specs.declared.Kind.{Kind}
 use Rattle.meaning.specs.declared.Kind.TheVariants.{Bool as bool}
-use Rattle.meaning.specs.declared.Refusal.{Refusal}
 use Rattle.meaning.specs.declared.Refusal.TheVariants.{WrongKind, WrongLength, LengthOneTarget, LengthNotListed}
 use Rattle.meaning.specs.Codes.{Out, ok, refused, after}
 use Rattle.meaning.specs.Tree.{Name, kind_number, same_kind, Expr, Block, assign}
@@ -22,98 +25,109 @@ use Rattle.layout.specs.Words.{block_length, block_place}
 use Rattle.layout.specs.Stack.{slot_kind, slot_lanes, slot_word, with_slot}
 use Rattle.layout.specs.Table.{kind_of, entries}
 use Rattle.typing_expressions.specs.declared.Point.{Point}
-use Rattle.typing_expressions.specs.Rows.{Closes}
-use Rattle.typing_expressions.specs.Nodes.{Entry, entry_at, a_name, step as node_step}
+use Rattle.typing_expressions.specs.Nodes.{Entry, a_name, step as node_step}
 use Rattle.typing_expressions.specs.Answers.{entry_out, TypesNode, typed_out, TypesAs}
+use Rattle.typing_expressions.proofs.Tags.{same_is}
 use Rattle.typing_expressions.proofs.Slots.{entry_put}
 use Rattle.typing_expressions.proofs.Walk.{after-after, after_same, after_refused, after_ok}
 use Rattle.typing_simple.specs.declared.Target.{Target}
-use Rattle.layout.specs.declared.Stage.{Stage}
-use Rattle.layout.specs.declared.Stage.TheVariants.{Done, Refused}
+use Rattle.layout.specs.declared.Reached.{Reached}
+use Rattle.layout.specs.declared.Refused.{Refused}
+use Rattle.std.specs.declared.result.Result.TheVariants.{Ok, Err}
 use Rattle.typing_simple.specs.Shapes.{listed_block}
 use Rattle.typing_simple.specs.Answers.{length_or, valued, walked_out, WalkedTo, Walks}
 use Rattle.typing_simple.proofs.Shapes.{length_good}
 
 -- ---- answers
-module _ {before code stack : List ℕ} {count end : ℕ} {Γ : Declarations} {a : Stage} {o : Out Declarations T.Typed} where
-  pub no_shows : {c : Refusal} {p : ℕ} → a ≡ Refused c p → o ≡ refused c p → TypesAs before code stack count end Γ a o
+module _ {before code stack : List ℕ} {count end : ℕ} {Γ : Declarations} {o : Out Declarations T.Typed} where
+  pub no_shows : {why : Refused} → o ≡ refused why.refusal why.place → TypesAs before code stack count end Γ (Err why) o
   unfolding typed_out
-  no_shows q e = record { becomes = constant 0; is = rw (q, e); on = λ n z y. absurd (let x : ◌≡◌ {A = ℕ} 0 1 = cc in omega arith) }
+  no_shows e = record { becomes = constant 0; is = sym e; on = tt }
 
-  module _ (s : TypesAs before code stack count end Γ a o) where
-    pub shows_no : {c : Refusal} {p : ℕ} → a ≡ Refused c p → o ≡ refused c p
-    unfolding typed_out
-    shows_no q = sym s.is ∙ rw q
+  pub shows_no : {why : Refused} → TypesAs before code stack count end Γ (Err why) o → o ≡ refused why.refusal why.place
+  unfolding typed_out
+  shows_no s = sym s.is
 
-    pub shows_ok : {n z : ℕ} → a ≡ Done n z → o ≡ ok (record { code = s.becomes; kind = kind_of (slot_kind stack 0); lanes = slot_lanes stack 0 }) Γ
-    unfolding typed_out
-    shows_ok q = sym s.is ∙ rw q
+  pub shows_ok : {to : Reached} (s : TypesAs before code stack count end Γ (Ok to) o) → o ≡ ok (record { code = s.becomes; kind = kind_of (slot_kind stack 0); lanes = slot_lanes stack 0 }) Γ
+  unfolding typed_out
+  shows_ok s = sym s.is
 
-module _ {text table before code : List ℕ} {count end : ℕ} {r : Stage} {o : Out Declarations Program} where
-  pub no_walks : {c : Refusal} {p : ℕ} → r ≡ Refused c p → o ≡ refused c p → Walks text table before code count end r o
+module _ {text table before code : List ℕ} {count end : ℕ} {o : Out Declarations Program} where
+  pub no_walks : {why : Refused} → o ≡ refused why.refusal why.place → Walks text table before code count end (Err why) o
   unfolding walked_out
-  no_walks q e = record { program = nothing; is = rw (q, e); on = λ n z y. absurd (let x : ◌≡◌ {A = ℕ} 0 1 = cc in omega arith) }
+  no_walks e = record { program = nothing; is = sym e; on = tt }
 
-  pub on_walks : {n z : ℕ} {P : Program} → r ≡ Done n z → o ≡ ok P (entries text table n) → WalkedTo text table before code count end n z P → Walks text table before code count end r o
+  pub on_walks : {to : Reached} {P : Program} → o ≡ ok P (entries text table to.count) → WalkedTo text table before code count end to.count to.size P → Walks text table before code count end (Ok to) o
   unfolding walked_out
-  on_walks {n} {z} {P} q e w = record {
-    program = P;
-    is = rw (q, e);
-    on = λ m y x. let i : n ≡ m = cc in let j : z ≡ y = cc in rw (← i, ← j) w;
-  }
+  on_walks {P = P} e w = record { program = P; is = sym e; on = w }
 
-  module _ (w : Walks text table before code count end r o) where
-    pub walks_no : {c : Refusal} {p : ℕ} → r ≡ Refused c p → o ≡ refused c p
-    unfolding walked_out
-    walks_no q = sym w.is ∙ rw q
+  pub walks_no : {why : Refused} → Walks text table before code count end (Err why) o → o ≡ refused why.refusal why.place
+  unfolding walked_out
+  walks_no w = sym w.is
 
-    pub walks_ok : {n z : ℕ} → r ≡ Done n z → o ≡ ok w.program (entries text table n)
-    unfolding walked_out
-    walks_ok q = sym w.is ∙ rw q
+  pub walks_ok : {to : Reached} (w : Walks text table before code count end (Ok to) o) → o ≡ ok w.program (entries text table to.count)
+  unfolding walked_out
+  walks_ok w = sym w.is
 
-pub closes_at : {one : Stage} {from n z m y : ℕ} {T U : List ℕ} → one ≡ Done n z → one ≡ Done m y → Closes from n T U → Closes from m T U
-closes_at {n = n} {m = m} p q c = let i : n ≡ m = cc in rw (← i) c
+-- ---- kinds
+-- What the code's `!=` says of two kinds.
+module _ (k l : Kind) {b : Bool} (e : b ≡ not (sameb the_type k l)) where
+  pub kinds_differ : b ≡ true → same_kind k l ≡ false
+  kinds_differ q = sym (same_is k l) ∙ not-true _ (sym e ∙ q)
+
+  pub kinds_agree : b ≡ false → same_kind k l ≡ true
+  kinds_agree q = sym (same_is k l) ∙ not-false _ (sym e ∙ q)
 
 -- ---- a condition
-module _ {before code stack : List ℕ} {count end : ℕ} {Γ : Declarations} {a : Stage} (C p : ℕ) (e : Expr) (s : TypesAs before code stack count end Γ a (typed C e Γ)) where
-  pub condition_no : {c : Refusal} {q : ℕ} → a ≡ Refused c q → TypesAs before code stack count end Γ a (typed_condition C p e Γ)
+module _ {before code stack : List ℕ} {count end : ℕ} {Γ : Declarations} (C p : ℕ) (e : Expr) where
+  pub condition_no : {why : Refused} → TypesAs before code stack count end Γ (Err why) (typed C e Γ) → TypesAs before code stack count end Γ (Err why) (typed_condition C p e Γ)
   unfolding typed_condition
-  condition_no h = no_shows h (rw (shows_no s h))
+  condition_no s = no_shows (rw (shows_no s))
 
-  module _ {n z : ℕ} {k : Kind} {b : Bool} (h : a ≡ Done n z) (ek : k ≡ kind_of (slot_kind stack 0)) (eb : b ≡ same_kind k bool) where
-    pub condition_8 : b ≡ false → TypesAs before code stack count end Γ (Refused WrongKind p) (typed_condition C p e Γ)
+  module _ {to : Reached} (s : TypesAs before code stack count end Γ (Ok to) (typed C e Γ)) {k : Kind} (ek : k ≡ kind_of (slot_kind stack 0)) where
+    pub condition_8 : same_kind k bool ≡ false → TypesAs before code stack count end Γ (Err (record { refusal = WrongKind; place = p })) (typed_condition C p e Γ)
     unfolding typed_condition
-    condition_8 f = no_shows refl (rw (shows_ok s h) (rw (← ek, ← eb, f)))
+    condition_8 f = no_shows (rw (shows_ok s) (rw (← ek, f)))
 
-    pub condition_ok : b ≡ true → TypesAs before code stack count end Γ (Done n z) (typed_condition C p e Γ)
+    pub condition_ok : same_kind k bool ≡ true → TypesAs before code stack count end Γ (Ok to) (typed_condition C p e Γ)
     unfolding typed_condition typed_out
-    condition_ok f = record { becomes = s.becomes; is = rw (shows_ok s h) (rw (← ek, ← eb, f)); on = λ m y q. s.on m y (h ∙ q) }
+    condition_ok f = record { becomes = s.becomes; is = rw (shows_ok s) (rw (← ek, f)); on = s.on }
 
 -- ---- a value for a target
-module _ {before code stack : List ℕ} {count end : ℕ} {Γ : Declarations} {a : Stage} (C : ℕ) (t : Target) (e : Expr) (s : TypesAs before code stack count end Γ a (typed C e Γ)) where
-  pub value_no : {c : Refusal} {q : ℕ} → a ≡ Refused c q → TypesAs before code stack count end Γ a (valued C t e Γ)
+-- A value of length n is stored in a target of length l, as the code's tests say it.
+spread : {n l : ℕ} → ((n ≡ 1 → ⊥) × (n ≡ l)) ⊎ (n ≡ 1) → (eqb n 1 || eqb n l) ≡ true
+spread {n} {l} (inl (p, q)) = rw (eq-eqb n l q) (or-true (eqb n 1))
+spread {n} (inr q) = rw (eq-eqb n 1 q)
+
+-- So is a target of length l in a context of length C.
+wide : {C l : ℕ} → ((C ≡ 1 → ⊥) × (l ≡ 1 → ⊥)) ⊎ (C ≡ 1) → (eqb C 1 || not (eqb l 1)) ≡ true
+wide {C} {l} (inl (p, q)) = rw (ne_eqb l 1 q) (or-true (eqb C 1))
+wide {C} (inr q) = rw (eq-eqb C 1 q)
+
+module _ {before code stack : List ℕ} {count end : ℕ} {Γ : Declarations} (C : ℕ) (t : Target) (e : Expr) where
+  pub value_no : {why : Refused} → TypesAs before code stack count end Γ (Err why) (typed C e Γ) → TypesAs before code stack count end Γ (Err why) (valued C t e Γ)
   unfolding valued
-  value_no h = no_shows h (rw (shows_no s h))
+  value_no s = no_shows (rw (shows_no s))
 
-  module _ {m z n l : ℕ} {k : Kind} {b : Bool} (h : a ≡ Done m z) (ek : k ≡ kind_of (slot_kind stack 0)) (en : n ≡ slot_lanes stack 0) (el : l ≡ length_or t.lanes n) (eb : b ≡ same_kind k t.kind) where
-    pub value_8 : b ≡ false → TypesAs before code stack count end Γ (Refused WrongKind t.place) (valued C t e Γ)
+  module _ {to : Reached} (s : TypesAs before code stack count end Γ (Ok to) (typed C e Γ)) {n l : ℕ} {k : Kind} (ek : k ≡ kind_of (slot_kind stack 0)) (en : n ≡ slot_lanes stack 0) (el : l ≡ length_or t.lanes n) where
+    pub value_8 : same_kind k t.kind ≡ false → TypesAs before code stack count end Γ (Err (record { refusal = WrongKind; place = t.place })) (valued C t e Γ)
     unfolding valued storable
-    value_8 f = no_shows refl (rw (shows_ok s h) (rw (← ek, ← eb, f)))
+    value_8 f = no_shows (rw (shows_ok s) (rw (← ek, f)))
 
-    module _ (f : b ≡ true) where
-      pub value_9 : (eqb n 1 || eqb n l) ≡ false → TypesAs before code stack count end Γ (Refused WrongLength t.place) (valued C t e Γ)
+    module _ (f : same_kind k t.kind ≡ true) where
+      pub value_9 : (n ≡ 1 → ⊥) → (n ≡ l → ⊥) → TypesAs before code stack count end Γ (Err (record { refusal = WrongLength; place = t.place })) (valued C t e Γ)
       unfolding valued storable
-      value_9 g = no_shows refl (rw (shows_ok s h) (rw (← ek, ← en, ← el, ← eb, f, g)))
+      value_9 p q = no_shows (rw (shows_ok s) (rw (← ek, ← en, ← el, f, ne_eqb n 1 p, ne_eqb n l q)))
 
-      module _ (g : (eqb n 1 || eqb n l) ≡ true) where
-        pub value_10 : (eqb C 1 || not (eqb l 1)) ≡ false → TypesAs before code stack count end Γ (Refused LengthOneTarget t.place) (valued C t e Γ)
+      module _ (g : ((n ≡ 1 → ⊥) × (n ≡ l)) ⊎ (n ≡ 1)) where
+        pub value_10 : (C ≡ 1 → ⊥) → l ≡ 1 → TypesAs before code stack count end Γ (Err (record { refusal = LengthOneTarget; place = t.place })) (valued C t e Γ)
         unfolding valued storable
-        value_10 i = no_shows refl (rw (shows_ok s h) (rw (← ek, ← en, ← el, ← eb, f, g, i)))
+        value_10 p q = no_shows (rw (shows_ok s) (rw (← ek, ← en, ← el, f, spread g, ne_eqb C 1 p, eq-eqb l 1 q)))
 
-        pub value_ok : (eqb C 1 || not (eqb l 1)) ≡ true → {stack' : List ℕ} (w : ℕ) → stack' ≡ with_slot stack 0 (kind_number t.kind) l w → 3 ≤ length stack
-            → TypesAs before code stack' count end Γ (Done m z) (valued C t e Γ)
+        pub value_ok : ((C ≡ 1 → ⊥) × (l ≡ 1 → ⊥)) ⊎ (C ≡ 1) → {stack' : List ℕ} (w : ℕ) → stack' ≡ with_slot stack 0 (kind_number t.kind) l w → 3 ≤ length stack
+            → TypesAs before code stack' count end Γ (Ok to) (valued C t e Γ)
         unfolding valued storable typed_out
-        value_ok i {stack'} w es room = record { becomes = s.becomes; is = rw (put_kind, put_lanes) (rw (shows_ok s h) (rw (← ek, ← en, ← el, ← eb, f, g, i))); on = λ j y q. s.on j y (h ∙ q) }
+        value_ok i {stack'} w es room = record { becomes = s.becomes; is = rw (put_kind, put_lanes) (rw (shows_ok s) (rw (← ek, ← en, ← el, f, spread g, wide i))); on = s.on }
           where
             put_kind : kind_of (slot_kind stack' 0) ≡ t.kind
             put_kind = rw es (ap (λ x. x.kind) (entry_put stack 0 t.kind l w room))
@@ -132,20 +146,15 @@ pub record FoundIt (C p : ℕ) (x : Name) (Γ : Declarations) (k : Kind) (n w : 
   pub kind_is : found.kind ≡ k
   pub lanes_is : found.lanes ≡ n
 
-module _ {at : Point} {p b : ℕ} {x : Name} {Γ : Declarations} {before later : List ℕ} {t : Stage} (s : TypesNode at (a_name p x) [] Γ b before later t) where
-  shown : after (variable_named at.context p x Γ) (λ i Δ. ok (as_entry i) Δ) ≡ entry_out t (entry_at later b) Γ
-  unfolding node_step
-  shown = sym s.is
+module _ {at : Point} {p b : ℕ} {x : Name} {Γ : Declarations} {before later : List ℕ} where
+  pub name_no : {why : Refused} → TypesNode at (a_name p x) [] Γ b before later (Err why) → variable_named at.context p x Γ ≡ refused why.refusal why.place
+  unfolding entry_out node_step
+  name_no s = after_refused as_entry (variable_named at.context p x Γ) (sym s.is)
 
-  pub name_no : {c : Refusal} {q : ℕ} → t ≡ Refused c q → variable_named at.context p x Γ ≡ refused c q
-  unfolding entry_out
-  name_no h = after_refused as_entry (variable_named at.context p x Γ) (shown ∙ rw h)
-
-  pub name_ok : {m z : ℕ} {k : Kind} {n w : ℕ} → t ≡ Done m z → k ≡ kind_of (slot_kind later b) → n ≡ slot_lanes later b → w ≡ slot_word later b → FoundIt at.context p x Γ k n w
-  unfolding entry_out
-  name_ok {k = k} {n = n} {w = w} h ek en ew =
-      let e : after (variable_named at.context p x Γ) (λ i Δ. ok (as_entry i) Δ) ≡ ok (entry_at later b) Γ = shown ∙ rw h in
-      let a = after_ok as_entry (variable_named at.context p x Γ) e in
+  pub name_ok : {to : Reached} {k : Kind} {n w : ℕ} → TypesNode at (a_name p x) [] Γ b before later (Ok to) → k ≡ kind_of (slot_kind later b) → n ≡ slot_lanes later b → w ≡ slot_word later b → FoundIt at.context p x Γ k n w
+  unfolding entry_out node_step
+  name_ok s ek en ew =
+      let a = after_ok as_entry (variable_named at.context p x Γ) (sym s.is) in
       record {
         found = a.0.1;
         is = a.1 ∙ ap (λ i. ok (i, a.0.1) Γ) (ap (λ y. y.word) a.2 ∙ sym ew);

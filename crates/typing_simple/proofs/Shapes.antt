@@ -14,13 +14,13 @@ use Rattle.meaning.specs.Codes.{◌among◌, lengths}
 use Rattle.meaning.specs.Tokens.{the, numbered, reserved, words, signs, marks}
 use Rattle.meaning.specs.Tree.{Expr, Block, Stmt}
 use Rattle.layout.specs.Words.{kind_tag, block_length, block_place, value_place, value_words}
-use Rattle.layout.specs.Heads.{declaration_head, value_word}
+use Rattle.layout.specs.Heads.{declaration_head, tag_word, length_word, length_place_word, value_word}
 use Rattle.laws.specs.Sound.{Placed, no_block, at_place, Valued, no_value, a_value}
 use Rattle.meaning.specs.Typing.{lanes_or}
 use Rattle.laws.proofs.Declarations.{listed_some}
 use Rattle.typing_expressions.specs.Rows.{ListedLength}
 use Rattle.typing_simple.specs.Shapes.{listed_block, part, Declaration, PlainDeclaration, InitialDeclaration}
-use Rattle.typing_simple.specs.Answers.{length_or}
+use Rattle.typing_simple.specs.Answers.{length_or, NamesKind, BlocksWell}
 
 -- ---- its kind
 pub named_int : (k : Kind) → kind_tag k ≡ 16 → int ≡ k
@@ -66,12 +66,16 @@ length-listed b {n} g l = rw (length_good b n g) (go b g)
     go none h = l
     go (some m) h = record { is = h }
 
+-- What the code says of an N and its place, it says of the block.
+pub block_said : {text tree : List ℕ} {s : Stmt} {b : Bool} {p : ℕ} (d : Declaration text tree s) → BlocksWell (get_or tree length_word 0) p b → p ≡ get_or tree length_place_word 0 → b ≡ listed_block d.block
+block_said {text} d eb ep = eb text d.block d.placed d.lanes (d.lanes_at ∙ sym ep)
+
 -- ---- its value
 -- The place of `=` is 0 where there is no value.
-module _ {text tree : List ℕ} {s : Stmt} {k : Kind} {b : Bool} (d : Declaration text tree s) (ek : k ≡ d.kind) (eb : b ≡ listed_block d.block) (yes : b ≡ true) where
+module _ {text tree : List ℕ} {s : Stmt} {k : Kind} {b : Bool} {p : ℕ} (d : Declaration text tree s) (ek : NamesKind (get_or tree tag_word 0) k) (eb : BlocksWell (get_or tree length_word 0) p b) (ep : p ≡ get_or tree length_place_word 0) (yes : b ≡ true) where
   pub without_value : get_or tree value_word 0 ≡ 0 → PlainDeclaration k text tree s
   unfolding value_place
-  without_value z = record { shape = d; kind_is = sym ek; good = sym eb ∙ yes; no_value = go d.valued (d.equals ∙ z) }
+  without_value z = record { shape = d; kind_is = sym (ek d.kind d.tag); good = sym (block_said d eb ep) ∙ yes; no_value = go d.valued (d.equals ∙ z) }
     where
       go : {v : Option (ℕ × Expr)} → Valued text v → value_place v ≡ 0 → v ≡ none
       go no_value h = refl
@@ -85,8 +89,8 @@ module _ {text tree : List ℕ} {s : Stmt} {k : Kind} {b : Bool} (d : Declaratio
       go none q w h u = absurd (z (sym h))
       go (some (p, e)) q (a_value l i x) h u = record {
         shape = d;
-        kind_is = sym ek;
-        good = sym eb ∙ yes;
+        kind_is = sym (ek d.kind d.tag);
+        good = sym (block_said d eb ep) ∙ yes;
         right = e;
         its_value = q ∙ rw h;
         its_right = record { is = u; sound = x };

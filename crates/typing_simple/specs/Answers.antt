@@ -1,5 +1,5 @@
 -- What the answers for statements say: one definition turns each into the definition's outcome.
-use Rattle.std.specs.Prelude.{ℕ, ◌+◌, ◌≤◌, ◌≡◌, Bool, List, ◌++◌, eqb, length, get_or, take}
+use Rattle.std.specs.Prelude.{ℕ, ◌+◌, ◌≤◌, ◌≡◌, Bool, List, ◌++◌, eqb, length, get_or, take, IfOk}
 use Rattle.meaning.specs.declared.Kind.{Kind}
 use Rattle.meaning.specs.Codes.{Out, ok, refused, ◌>>=◌, ◌>>◌, give, when◌then◌else◌, declaration_limit}
 use Rattle.meaning.specs.Tree.{Expr, Block, Stmt}
@@ -16,8 +16,8 @@ use Rattle.typing_expressions.specs.declared.Point.{Point}
 use Rattle.typing_expressions.specs.Rows.{Rows, Closes}
 use Rattle.typing_expressions.specs.Answers.{TypesAs}
 use Rattle.typing_simple.specs.declared.Target.{Target}
-use Rattle.layout.specs.declared.Stage.{Stage}
-use Rattle.layout.specs.declared.Stage.TheVariants.{Done, Refused}
+use Rattle.layout.specs.Stage.{Stage}
+use Rattle.std.specs.declared.result.Result.TheVariants.{Ok, Err}
 use Rattle.typing_simple.specs.Shapes.{listed_block, Empty, Condition}
 
 -- ---- the parts of a statement
@@ -50,8 +50,8 @@ TypesCondition at text tree table before after stack r =
 -- ---- a statement
 -- The answer for a statement that becomes P.
 unfoldable pub walked_out : Stage → Program → List ℕ → List ℕ → Out Declarations Program
-walked_out (Done n z) P text table = ok P (entries text table n)
-walked_out (Refused c p) P text table = refused c p
+walked_out (Ok reached) P text table = ok P (entries text table reached.count)
+walked_out (Err why) P text table = refused why.refusal why.place
 
 -- After a statement the table holds n declarations, which are no fewer than before, and the code z words, which stand behind those
 -- before and are at most as many as the tree has.
@@ -65,7 +65,7 @@ pub record WalkedTo (text table before code : List ℕ) (count end n z : ℕ) (P
 pub record Walks (text table before code : List ℕ) (count end : ℕ) (r : Stage) (out : Out Declarations Program) : Type 0 where
   pub program : Program
   pub is : walked_out r program text table ≡ out
-  pub on : (n z : ℕ) → r ≡ Done n z → WalkedTo text table before code count end n z program
+  pub on : IfOk r (λ reached. WalkedTo text table before code count end reached.count reached.size program)
 
 -- The statement s, whose words are the tree, was typed at a point as the definition says.
 abbrev pub WalksAt : Point → List ℕ → List ℕ → List ℕ → List ℕ → List ℕ → List ℕ → Stmt → Stage → Type 0
@@ -86,7 +86,7 @@ pub record PlainRoom (text tree table code : List ℕ) (at : Point) : Type 0 whe
 pub record StepsOn (at : Point) (s : Stmt) (before after : List ℕ) (r : Stage) : Type 0 where
   pub program : Program
   pub is : (C : ℕ) (Γ : Declarations) → typed_statement C s Γ ≡ ok program Γ
-  pub answer : r ≡ Done at.count (at.size + unit_words)
+  pub answer : r ≡ Ok (record { count = at.count; size = at.size + unit_words })
   pub words : take (at.size + unit_words) after ≡ take at.size before ++ program_words program
 
 abbrev pub TypesEmpty : Point → List ℕ → List ℕ → List ℕ → Stage → Type 0
@@ -102,4 +102,4 @@ pub record ScopeOpen (from n : ℕ) (table : List ℕ) : Type 0 where
 -- It was closed, if there was no refusal.
 pub record ScopeClosed (from : ℕ) (one : Stage) (before after : List ℕ) (r : Stage) : Type 0 where
   pub same : r ≡ one
-  pub closes : (n z : ℕ) → one ≡ Done n z → Closes from n before after
+  pub closes : IfOk one (λ reached. Closes from reached.count before after)

@@ -1,9 +1,9 @@
 // The simple statements, which hold no other: each is typed, its declaration put in the table and its program written.
+// No struct of the table, the code and the stack, as in `typing_expressions`.
 #![tactic(auto)]
 
-ghost use Rattle.std.specs.Prelude.{◌≡◌, ◌++◌, ℕ, ◌+◌, ◌≤◌, length, take};
+ghost use Rattle.std.specs.Prelude.{◌≡◌, ◌++◌, ◌+◌, ◌≤◌, length, take, IfOk};
 ghost use Rattle.meaning.specs.Program.{step};
-ghost use Rattle.meaning.specs.Typing as T;
 ghost use Rattle.layout.specs.Words.{unit, unit_words, headed};
 ghost use Rattle.layout.specs.Code.{program_words};
 ghost use Rattle.layout.specs.Heads.{long_head};
@@ -12,11 +12,12 @@ ghost use Rattle.typing_expressions.specs.Answers.{ThereIs, Expression, TypingRo
 ghost use Rattle.typing_simple.specs.Shapes.{part, Empty, Declaration, PlainDeclaration, InitialDeclaration, Assignment, Condition};
 ghost use Rattle.typing_simple.specs.Answers.{length_or, valued, NamesKind, BlocksWell, TypesCondition, PlainRoom, TypesEmpty, ScopeOpen, ScopeClosed, TypesStatement};
 
-use layout::{Stage, UNIT, head, put_unit, slot, tag, word};
+use layout::{Reached, Refused, Stage, UNIT, head, put_unit, slot, tag, word};
 use meaning::{Kind, Refusal};
-use typing_expressions::{Point, declare, expression, named, same_kind};
+use typing_expressions::{Point, declare, expression, named};
 
 // What an `=` writes to: the place of the `=`, a kind, and a length, or 0 for any.
+// No Option: the length is a word of the tree, which is 0 where no length is declared.
 #[derive(Clone, Copy)]
 struct Target {
     place: usize,
@@ -42,6 +43,8 @@ pub fn put_head(code: &mut [u32], size: usize, tag: u32, place: u32, a: u32, b: 
 }
 
 // The declared length, or that of the value where none is declared.
+// No Option: the declared length is a word of the tree, which is 0 where there is none.
+#[tactic(auto, unfolding(crate::specs::Answers::length_or))]
 fn length_or(m: u32, n: u32) -> u32
     ensures { result ≡ length_or m n }
 {
@@ -49,6 +52,7 @@ fn length_or(m: u32, n: u32) -> u32
 }
 
 // Types the right side of an `=`: its expression, then 8, 9, 10. The target's kind and the length stand in slot 0.
+#[tactic(auto, using(typing_expressions::proofs::Walk::limit))]
 fn value(
     text: &[u8],
     tree: &[u32],
@@ -62,38 +66,36 @@ fn value(
     requires there_is { ThereIs (Expression text.now tree.now) }
     ensures { TypesExpression (valued at.context target) at text.now tree.now table.now code.old code.new stack.new result }
 {
-    let right = expression(text, tree, table, at, code, stack);
-    let Stage::Done { count, size } = right else {
-        return right;
-    };
+    let right = expression(text, tree, table, at, code, stack)?;
     let kind = target.kind;
     let place = target.place;
     let n = slot::lanes(stack, 0);
     let length = length_or(target.lanes, n);
-    if !same_kind(slot::kind(stack, 0), kind) {
-        return Stage::Refused {
+    if slot::kind(stack, 0) != kind {
+        return Err(Refused {
             refusal: Refusal::WrongKind,
             place,
-        };
+        });
     }
-    if !((n == 1) | (n == length)) {
-        return Stage::Refused {
+    if n != 1 && n != length {
+        return Err(Refused {
             refusal: Refusal::WrongLength,
             place,
-        };
+        });
     }
-    if !((at.context == 1) | (length != 1)) {
-        return Stage::Refused {
+    if at.context != 1 && length == 1 {
+        return Err(Refused {
             refusal: Refusal::LengthOneTarget,
             place,
-        };
+        });
     }
     let word = slot::word(stack, 0);
     slot::put(stack, 0, kind, length, word);
-    Stage::Done { count, size }
+    Ok(right)
 }
 
 // Types the condition of an `if` or a `while`: its expression, then 8. Its kind and its length stand in slot 0.
+#[tactic(auto, using(typing_expressions::proofs::Walk::limit))]
 pub fn condition(
     text: &[u8],
     tree: &[u32],
@@ -108,25 +110,22 @@ pub fn condition(
 {
     let end = head::LONG + word(tree, head::CONDITION);
     let inside = Point {
-        context: at.context,
-        count: at.count,
         size: at.size + head::LONG,
+        ..at
     };
     let words = &tree[head::LONG..end];
-    let test = expression(text, words, table, inside, code, stack);
-    let Stage::Done { count, size } = test else {
-        return test;
-    };
-    if !same_kind(slot::kind(stack, 0), Kind::Bool) {
-        return Stage::Refused {
+    let test = expression(text, words, table, inside, code, stack)?;
+    if slot::kind(stack, 0) != Kind::Bool {
+        return Err(Refused {
             refusal: Refusal::WrongKind,
             place: word(tree, head::PLACE),
-        };
+        });
     }
-    Stage::Done { count, size }
+    Ok(test)
 }
 
 // Types an assignment: 5, 9 at the target, the right side, then 8, 9, 10 at `=`.
+#[tactic(auto, using(typing_expressions::proofs::Walk::limit))]
 pub fn assignment(
     text: &[u8],
     tree: &[u32],
@@ -142,10 +141,7 @@ pub fn assignment(
     let size = at.size;
     let place = word(tree, head::PLACE);
     let end = word(tree, head::TARGET_END);
-    let name = named(text, table, at, place, end, stack, 0);
-    let Stage::Done { .. } = name else {
-        return name;
-    };
+    named(text, table, at, place, end, stack, 0)?;
     let number = slot::word(stack, 0);
     let target = Target {
         place: word(tree, head::EQUALS),
@@ -153,20 +149,25 @@ pub fn assignment(
         lanes: slot::lanes(stack, 0),
     };
     let inside = Point {
-        context: at.context,
-        count: at.count,
         size: size + head::LONG,
+        ..at
     };
     let words = &tree[head::LONG..];
-    let right = value(text, words, table, inside, target, code, stack);
-    let Stage::Done { count, size: all } = right else {
-        return right;
-    };
-    put_head(code, size, tag::PUT, tree[head::PLACE], number, 0, all);
-    Stage::Done { count, size: all }
+    let right = value(text, words, table, inside, target, code, stack)?;
+    put_head(
+        code,
+        size,
+        tag::PUT,
+        tree[head::PLACE],
+        number,
+        0,
+        right.size,
+    );
+    Ok(right)
 }
 
 // The kind that the first token of a declaration names.
+// No `From<u32>`: only a declaration's tag names a kind (`NamesKind`).
 fn kind_named(tag: u32) -> Kind
     ensures { NamesKind tag result }
 {
@@ -181,7 +182,7 @@ fn kind_named(tag: u32) -> Kind
 fn good_block(n: u32, place: usize) -> bool
     ensures { BlocksWell n place result }
 {
-    (place == 0) | typing_expressions::listed(n)
+    place == 0 || typing_expressions::listed(n)
 }
 
 // Types a declaration without value, whose N is good: 9, 6, 11 at the name.
@@ -201,18 +202,16 @@ fn plain(
     let lanes = length_or(tree[head::LENGTH], 1);
     let place = word(tree, head::NAME);
     let end = word(tree, head::NAME_END);
-    let new = declare(text, table, at, kind, lanes, place, end);
-    let Stage::Done { count, .. } = new else {
-        return new;
-    };
+    let new = declare(text, table, at, kind, lanes, place, end)?;
     put_step(code, size, tree[head::PLACE]);
-    Stage::Done {
-        count,
+    Ok(Reached {
         size: size + UNIT,
-    }
+        ..new
+    })
 }
 
 // Types a declaration with value, whose N is good: the value, 8, 9, 10 at `=`, then 9, 6, 11 at the name.
+#[tactic(auto, using(typing_expressions::proofs::Walk::limit))]
 fn initial(
     text: &[u8],
     tree: &[u32],
@@ -233,25 +232,29 @@ fn initial(
         lanes: tree[head::LENGTH],
     };
     let inside = Point {
-        context: at.context,
-        count: at.count,
         size: size + head::LONG,
+        ..at
     };
     let words = &tree[head::DECLARATION..];
-    let right = value(text, words, table, inside, target, code, stack);
-    let Stage::Done { size: all, .. } = right else {
-        return right;
-    };
+    let right = value(text, words, table, inside, target, code, stack)?;
     let length = slot::lanes(stack, 0);
     let place = word(tree, head::NAME);
     let end = word(tree, head::NAME_END);
-    let new = declare(text, table, at, kind, length, place, end);
-    let Stage::Done { count, .. } = new else {
-        return new;
-    };
+    let new = declare(text, table, at, kind, length, place, end)?;
     let number = at.count as u32;
-    put_head(code, size, tag::PUT, tree[head::PLACE], number, 0, all);
-    Stage::Done { count, size: all }
+    put_head(
+        code,
+        size,
+        tag::PUT,
+        tree[head::PLACE],
+        number,
+        0,
+        right.size,
+    );
+    Ok(Reached {
+        count: new.count,
+        ..right
+    })
 }
 
 // Types a declaration: 7, then the rest.
@@ -270,10 +273,10 @@ pub fn declaration(
     let kind = kind_named(tree[head::TAG]);
     let place = word(tree, head::LENGTH_PLACE);
     if !good_block(tree[head::LENGTH], place) {
-        return Stage::Refused {
+        return Err(Refused {
             refusal: Refusal::LengthNotListed,
             place,
-        };
+        });
     }
     if tree[head::VALUE] == 0 {
         return plain(text, tree, table, at, kind, code);
@@ -288,20 +291,18 @@ pub fn empty(tree: &[u32], at: Point, code: &mut [u32]) -> Stage
 {
     let size = at.size;
     put_step(code, size, tree[head::PLACE]);
-    Stage::Done {
+    Ok(Reached {
         count: at.count,
         size: size + UNIT,
-    }
+    })
 }
 
 // Ends the scope of what was declared from a number on.
 pub fn scoped(one: Stage, table: &mut [u32], from: usize) -> Stage
-    requires { (n z : ℕ) → one ≡ Stage.Done n z → ScopeOpen from n table.old }
+    requires { IfOk one (λ reached. ScopeOpen from reached.count table.old) }
     ensures { ScopeClosed from one table.old table.new result }
 {
-    let Stage::Done { count, size } = one else {
-        return one;
-    };
-    typing_expressions::close(table, from, count);
-    Stage::Done { count, size }
+    let reached = one?;
+    typing_expressions::close(table, from, reached.count);
+    Ok(reached)
 }

@@ -32,7 +32,7 @@ abbrev pub decreases-while_loop : goal.decreases-while_loop
 decreases-while_loop l = (token_count l.tokens.now - l.at) * 8 + 1
 
 abbrev pub invariant-statements-loop-tree : goal.invariant-statements-loop-tree
-invariant-statements-loop-tree l = ReadsOn 0 (λ ts. listed ts l.close l.room l.at) (λ ts. going ts l.close l.room) flat_stmts l.tokens l.at l.initial.tree l.size l.tree l.p l.q
+invariant-statements-loop-tree l = ReadsOn 0 (λ ts. listed ts l.close l.room l.at) (λ ts. going ts l.close l.room) flat_stmts l.tokens l.at l.initial.tree l.size l.tree l.reached.count l.reached.size
 
 abbrev pub decreases-statements-loop-tree : goal.decreases-statements-loop-tree
-decreases-statements-loop-tree l = token_count l.tokens - l.p
+decreases-statements-loop-tree l = token_count l.tokens - l.reached.count

@@ -16,8 +16,8 @@ decreases-parenthesised l = (token_count l.tokens.now - l.at) * 16 + 1
 abbrev pub decreases-unary : goal.decreases-unary
 decreases-unary l = (token_count l.tokens.now - l.at) * 16 + 1
 
-abbrev pub invariant-binary-loop-last : goal.invariant-binary-loop-last
-invariant-binary-loop-last l = Climb l.level l.last l.room l.tokens l.at l.initial.tree l.size l.tree l.p l.q
+abbrev pub invariant-binary-loop-left : goal.invariant-binary-loop-left
+invariant-binary-loop-left l = Climb l.level l.last l.room l.tokens l.at l.initial.tree l.size l.tree l.left.count l.left.size
 
-abbrev pub decreases-binary-loop-last : goal.decreases-binary-loop-last
-decreases-binary-loop-last l = token_count l.tokens - l.p
+abbrev pub decreases-binary-loop-left : goal.decreases-binary-loop-left
+decreases-binary-loop-left l = token_count l.tokens - l.left.count

@@ -1,36 +1,33 @@
 -- `typing::alone`, `typing::braces`, `typing::branch`, `typing::choice`, `typing::cycle`, `typing::statement`, `typing::statements` meet their contracts. Assumes nothing.
-use Prim.Native.Nat.{◌+◌}
-use mathlib.Core.Path.{refl, ap, ◌∙◌}
+use mathlib.Core.Path.{refl, ◌∙◌}
 use native.Mathlib.Omega.{arith}
-use lib.ListN.{length}
 use Rattle.meaning.specs.Typing.{typed_statement}
+use Rattle.layout.proofs.Handed.{handed_up}
 use Rattle.typing_expressions.proofs.Tables.{listed_one}
-use Rattle.typing_simple.proofs.Words.{length_part, rest_long}
-use Rattle.typing_simple.proofs.Walk.{room_again, slot_room}
+use Rattle.typing_simple.proofs.Words.{rest_long}
+use Rattle.typing_simple.proofs.Walk.{room_again}
 use Rattle.typing.proofs.Shapes.{shape, long_shape, empty_shape, braces_shape, assign_shape, choice_shape, cycle_shape, alone_shape, declare_shape}
 use Rattle.typing.proofs.Walk
 use Rattle.typing.proofs.Sequence.{sequel_start, sequel_end, sequel_inside, sequel_statement, sequel_room, sequel_refused, sequel_next}
 use Rattle.typing.proofs.+nested_statements.Goals as goal
 
 -- ---- `scalar`
-pub alone-branch-walked-requires : goal.alone-branch-walked-requires
-alone-branch-walked-requires t c = let g = c.requires.typing_room in
+pub alone-branch-nest-requires : goal.alone-branch-nest-requires
+alone-branch-nest-requires t c = let g = c.requires.typing_room in
     let k = c.requires.there_is.is in
     (omega (arith, c.decreases), (room_again g g.rows listed_one (omega (arith, rest_long c.args.tree.now 3 c.args.at.size k.long)) refl refl, record { the = k.body; is = k.its_body }))
 
-pub alone-returns-in_default-walked : goal.alone-returns-in_default-walked
-alone-returns-in_default-walked t c = λ s k. Walk.alone_no c.requires.typing_room k (c.branch-walked.ensures k.body k.its_body) c.in_default-walked.is
+pub alone-returns-in_err-body : goal.alone-returns-in_err-body
+alone-returns-in_err-body t c = rw (handed_up c.from_residual.result c.from_residual.ensures.1) (λ s k. Walk.alone_no c.requires.typing_room k c.in_err-body.ensures)
 
-pub alone-overflow_sub-z : goal.alone-overflow_sub-z
-alone-overflow_sub-z t c = let k = c.requires.there_is.is in
-    (Walk.alone_ends c.requires.typing_room k (c.branch-walked.ensures k.body k.its_body) c.in_Done-walked.is c.branch-walked.auto.code).0
+pub alone-overflow_sub-body : goal.alone-overflow_sub-body
+alone-overflow_sub-body t c = (Walk.alone_ends c.requires.typing_room c.requires.there_is.is c.in_ok-body.ensures c.branch-nest.auto.code).0
 
-pub alone-overflow_cast-z : goal.alone-overflow_cast-z
-alone-overflow_cast-z t c = let k = c.requires.there_is.is in
-    omega (arith, (Walk.alone_ends c.requires.typing_room k (c.branch-walked.ensures k.body k.its_body) c.in_Done-walked.is c.branch-walked.auto.code).2)
+pub alone-overflow_cast-body : goal.alone-overflow_cast-body
+alone-overflow_cast-body t c = omega (arith, (Walk.alone_ends c.requires.typing_room c.requires.there_is.is c.in_ok-body.ensures c.branch-nest.auto.code).2)
 
 pub alone-returns : goal.alone-returns
-alone-returns t c = λ s k. Walk.alone_ok c.requires.typing_room k (c.branch-walked.ensures k.body k.its_body) c.in_Done-walked.is c.branch-walked.auto.code c.put_unit.ensures
+alone-returns t c = λ s k. Walk.alone_ok c.requires.typing_room k c.in_ok-body.ensures c.branch-nest.auto.code c.put_unit.ensures
 
 -- ---- braces
 pub braces-scoped-requires : goal.braces-scoped-requires
@@ -47,174 +44,123 @@ pub branch-returns : goal.branch-returns
 branch-returns t c = λ s k. Walk.scope_walks c.requires.typing_room (typed_statement c.args.at.context s) (c.statement-one.ensures s k) c.scoped.ensures
 
 -- ---- `if`
-pub choice-returns-in_default : goal.choice-returns-in_default
-choice-returns-in_default t c = λ s k. Walk.choice_test c.requires.typing_room k (c.condition-test.ensures k.test (Walk.choice_condition refl k)) c.in_default.is
+pub choice-returns-in_err-first : goal.choice-returns-in_err-first
+choice-returns-in_err-first t c = rw (handed_up c.from_residual.result c.from_residual.ensures.1) (λ s x. Walk.choice_test c.requires.typing_room x c.in_err-first.ensures)
 
-pub choice-lanes-requires : goal.choice-lanes-requires
-choice-lanes-requires t c = slot_room c.requires.typing_room c.condition-test.auto.stack
+pub choice-branch-nest-requires : goal.choice-branch-nest-requires
+choice-branch-nest-requires t c = let h = Walk.chosen c.requires.typing_room c.word-one.ensures c.word.ensures c.requires.there_is.is c.in_ok-first.ensures in
+    (omega (arith, c.decreases), (Walk.choice_first_room h c.inside.auto.code c.inside.auto.stack, record { the = h.parts.first; is = h.parts.its_first }))
 
-pub choice-branch-walked-requires : goal.choice-branch-walked-requires
-choice-branch-walked-requires t c = let g = c.requires.typing_room in
-    let k = rw (← c.word-one.ensures, ← c.word.ensures) at c.requires.there_is.is in
-    let te = rw (← c.word-one.ensures) at (c.condition-test.ensures k.test (Walk.choice_condition c.word-one.ensures k)) in
-    let on = Walk.choice_on g k te c.in-Done.is c.lanes.ensures c.joined-context.ensures in (
-      omega (arith, c.decreases),
-      (
-        room_again g (Walk.choice_rows g k te c.in-Done.is c.lanes.ensures c.joined-context.ensures) (Walk.choice_listed g k te c.in-Done.is c.lanes.ensures c.joined-context.ensures)
-            (omega (arith, on.ends, length_part c.args.tree.now (6 + c.word-one.result) (6 + c.word-one.result + c.word.result) (omega arith) k.long, k.long))
-            c.condition-test.auto.code c.condition-test.auto.stack,
-        record { the = k.first; is = k.its_first },
-      ),
-    )
+pub choice-returns-in_err-yes : goal.choice-returns-in_err-yes
+choice-returns-in_err-yes t c = rw (handed_up c.from_residual-in_err-yes.result c.from_residual-in_err-yes.ensures.1) (λ s x. let h = Walk.chosen c.requires.typing_room c.word-one.ensures c.word.ensures x c.in_ok-first.ensures in
+    Walk.choice_first h c.in_err-yes.ensures)
 
-pub choice-returns-in_default-walked : goal.choice-returns-in_default-walked
-choice-returns-in_default-walked t c = λ s x.
-    let k = rw (← c.word-one.ensures, ← c.word.ensures) at x in
-    let te = rw (← c.word-one.ensures) at (c.condition-test.ensures k.test (Walk.choice_condition c.word-one.ensures k)) in
-    Walk.choice_first c.requires.typing_room k te c.in-Done.is c.lanes.ensures c.joined-context.ensures (c.branch-walked.ensures k.first k.its_first) c.in_default-walked.is
+pub choice-branch-nest-requires-2 : goal.choice-branch-nest-requires-2
+choice-branch-nest-requires-2 t c = let h = Walk.chosen c.requires.typing_room c.word-one.ensures c.word.ensures c.requires.there_is.is c.in_ok-first.ensures in
+    (omega (arith, c.decreases), (Walk.choice_second_room h c.in_ok-yes.ensures (c.branch-nest.auto.code ∙ c.inside.auto.code) (c.branch-nest.auto.stack ∙ c.inside.auto.stack), record { the = h.parts.second; is = h.parts.its_second }))
 
-pub choice-branch-walked-requires-2 : goal.choice-branch-walked-requires-2
-choice-branch-walked-requires-2 t c = let g = c.requires.typing_room in
-    let k = rw (← c.word-one.ensures, ← c.word.ensures) at c.requires.there_is.is in
-    let te = rw (← c.word-one.ensures) at (c.condition-test.ensures k.test (Walk.choice_condition c.word-one.ensures k)) in
-    let on = Walk.choice_on g k te c.in-Done.is c.lanes.ensures c.joined-context.ensures in
-    let x = (c.branch-walked.ensures k.first k.its_first).on _ _ c.in_Done-walked.is in (
-      omega (arith, c.decreases),
-      (
-        room_again g x.rows (Walk.choice_listed g k te c.in-Done.is c.lanes.ensures c.joined-context.ensures)
-            (omega (arith, x.room, on.ends, length_part c.args.tree.now (6 + c.word-one.result) (6 + c.word-one.result + c.word.result) (omega arith) k.long, length_part c.args.tree.now (6 + c.word-one.result + c.word.result) (length c.args.tree.now) k.long (omega arith), k.long))
-            (c.branch-walked.auto.code ∙ c.condition-test.auto.code) (c.branch-walked.auto.stack ∙ c.condition-test.auto.stack),
-        record { the = k.second; is = k.its_second },
-      ),
-    )
-
-pub choice-returns-in_default-walked-2 : goal.choice-returns-in_default-walked-2
-choice-returns-in_default-walked-2 t c = λ s x.
-    let k = rw (← c.word-one.ensures, ← c.word.ensures) at x in
-    let te = rw (← c.word-one.ensures) at (c.condition-test.ensures k.test (Walk.choice_condition c.word-one.ensures k)) in
-    Walk.choice_second c.requires.typing_room k te c.in-Done.is c.lanes.ensures c.joined-context.ensures (c.branch-walked.ensures k.first k.its_first) c.in_Done-walked.is (c.branch-walked-2.ensures k.second k.its_second) c.in_default-walked-2.is
+pub choice-returns-in_err-no : goal.choice-returns-in_err-no
+choice-returns-in_err-no t c = rw (handed_up c.from_residual-in_err-no.result c.from_residual-in_err-no.ensures.1) (λ s x. let h = Walk.chosen c.requires.typing_room c.word-one.ensures c.word.ensures x c.in_ok-first.ensures in
+    Walk.choice_second h c.in_ok-yes.ensures c.in_err-no.ensures)
 
 pub choice-overflow_sub-long : goal.choice-overflow_sub-long
-choice-overflow_sub-long t c = let k = rw (← c.word-one.ensures, ← c.word.ensures) at c.requires.there_is.is in
-    let te = rw (← c.word-one.ensures) at (c.condition-test.ensures k.test (Walk.choice_condition c.word-one.ensures k)) in
-    (Walk.choice_head c.requires.typing_room k te c.in-Done.is c.lanes.ensures c.joined-context.ensures (c.branch-walked.ensures k.first k.its_first) c.in_Done-walked.is (c.branch-walked-2.ensures k.second k.its_second) c.in_Done-walked-2.is c.condition-test.auto.code c.branch-walked.auto.code c.branch-walked-2.auto.code).first
+choice-overflow_sub-long t c = let h = Walk.chosen c.requires.typing_room c.word-one.ensures c.word.ensures c.requires.there_is.is c.in_ok-first.ensures in
+    (Walk.choice_head h c.in_ok-yes.ensures c.in_ok-no.ensures c.inside.auto.code c.branch-nest.auto.code c.branch-nest-2.auto.code).first
 
 pub choice-overflow_cast-long : goal.choice-overflow_cast-long
-choice-overflow_cast-long t c = let k = rw (← c.word-one.ensures, ← c.word.ensures) at c.requires.there_is.is in
-    let te = rw (← c.word-one.ensures) at (c.condition-test.ensures k.test (Walk.choice_condition c.word-one.ensures k)) in
-    omega (arith, (Walk.choice_head c.requires.typing_room k te c.in-Done.is c.lanes.ensures c.joined-context.ensures (c.branch-walked.ensures k.first k.its_first) c.in_Done-walked.is (c.branch-walked-2.ensures k.second k.its_second) c.in_Done-walked-2.is c.condition-test.auto.code c.branch-walked.auto.code c.branch-walked-2.auto.code).low)
+choice-overflow_cast-long t c = let h = Walk.chosen c.requires.typing_room c.word-one.ensures c.word.ensures c.requires.there_is.is c.in_ok-first.ensures in
+    omega (arith, (Walk.choice_head h c.in_ok-yes.ensures c.in_ok-no.ensures c.inside.auto.code c.branch-nest.auto.code c.branch-nest-2.auto.code).low)
 
 pub choice-put_head-requires : goal.choice-put_head-requires
-choice-put_head-requires t c = let k = rw (← c.word-one.ensures, ← c.word.ensures) at c.requires.there_is.is in
-    let te = rw (← c.word-one.ensures) at (c.condition-test.ensures k.test (Walk.choice_condition c.word-one.ensures k)) in
-    (Walk.choice_head c.requires.typing_room k te c.in-Done.is c.lanes.ensures c.joined-context.ensures (c.branch-walked.ensures k.first k.its_first) c.in_Done-walked.is (c.branch-walked-2.ensures k.second k.its_second) c.in_Done-walked-2.is c.condition-test.auto.code c.branch-walked.auto.code c.branch-walked-2.auto.code).room
+choice-put_head-requires t c = let h = Walk.chosen c.requires.typing_room c.word-one.ensures c.word.ensures c.requires.there_is.is c.in_ok-first.ensures in
+    (Walk.choice_head h c.in_ok-yes.ensures c.in_ok-no.ensures c.inside.auto.code c.branch-nest.auto.code c.branch-nest-2.auto.code).room
 
 pub choice-returns : goal.choice-returns
-choice-returns t c = λ s x.
-    let k = rw (← c.word-one.ensures, ← c.word.ensures) at x in
-    let te = rw (← c.word-one.ensures) at (c.condition-test.ensures k.test (Walk.choice_condition c.word-one.ensures k)) in
-    Walk.choice_ok c.requires.typing_room k te c.in-Done.is c.lanes.ensures c.joined-context.ensures (c.branch-walked.ensures k.first k.its_first) c.in_Done-walked.is (c.branch-walked-2.ensures k.second k.its_second) c.in_Done-walked-2.is c.condition-test.auto.code c.branch-walked.auto.code c.branch-walked-2.auto.code (rw (← c.word-one.ensures) at c.put_head.ensures)
+choice-returns t c = λ s x. let h = Walk.chosen c.requires.typing_room c.word-one.ensures c.word.ensures x c.in_ok-first.ensures in
+    Walk.choice_ok h c.in_ok-yes.ensures c.in_ok-no.ensures c.inside.auto.code c.branch-nest.auto.code c.branch-nest-2.auto.code c.put_head.ensures
 
 -- ---- `while`
-pub cycle-returns-in_default : goal.cycle-returns-in_default
-cycle-returns-in_default t c = λ s k. Walk.cycle_test c.requires.typing_room k (c.condition-test.ensures k.test (Walk.cycle_condition refl k)) c.in_default.is
+pub cycle-returns-in_err-start : goal.cycle-returns-in_err-start
+cycle-returns-in_err-start t c = rw (handed_up c.from_residual.result c.from_residual.ensures.1) (λ s x. Walk.cycle_test c.requires.typing_room x c.in_err-start.ensures)
 
-pub cycle-lanes-requires : goal.cycle-lanes-requires
-cycle-lanes-requires t c = slot_room c.requires.typing_room c.condition-test.auto.stack
+pub cycle-branch-nest-requires : goal.cycle-branch-nest-requires
+cycle-branch-nest-requires t c = let h = Walk.begun c.requires.typing_room c.word-one.ensures c.requires.there_is.is c.in_ok-start.ensures in
+    (omega (arith, c.decreases), (Walk.cycle_body_room h c.inside.auto.code c.inside.auto.stack, record { the = h.parts.body; is = h.parts.its_body }))
 
-pub cycle-branch-walked-requires : goal.cycle-branch-walked-requires
-cycle-branch-walked-requires t c = let g = c.requires.typing_room in
-    let k = rw (← c.word-one.ensures) at c.requires.there_is.is in
-    let te = rw (← c.word-one.ensures) at (c.condition-test.ensures k.test (Walk.cycle_condition c.word-one.ensures k)) in
-    let on = Walk.cycle_on g k te c.in-Done.is c.lanes.ensures c.joined.ensures in (
-      omega (arith, c.decreases),
-      (
-        room_again g (Walk.cycle_rows g k te c.in-Done.is c.lanes.ensures c.joined.ensures) (Walk.cycle_listed g k te c.in-Done.is c.lanes.ensures c.joined.ensures)
-            (omega (arith, on.ends, length_part c.args.tree.now (6 + c.word-one.result) (length c.args.tree.now) k.long (omega arith), k.long))
-            c.condition-test.auto.code c.condition-test.auto.stack,
-        record { the = k.body; is = k.its_body },
-      ),
-    )
-
-pub cycle-returns-in_default-walked : goal.cycle-returns-in_default-walked
-cycle-returns-in_default-walked t c = λ s x.
-    let k = rw (← c.word-one.ensures) at x in
-    let te = rw (← c.word-one.ensures) at (c.condition-test.ensures k.test (Walk.cycle_condition c.word-one.ensures k)) in
-    Walk.cycle_body c.requires.typing_room k te c.in-Done.is c.lanes.ensures c.joined.ensures (c.branch-walked.ensures k.body k.its_body) c.in_default-walked.is
+pub cycle-returns-in_err-body : goal.cycle-returns-in_err-body
+cycle-returns-in_err-body t c = rw (handed_up c.from_residual-in_err-body.result c.from_residual-in_err-body.ensures.1) (λ s x. let h = Walk.begun c.requires.typing_room c.word-one.ensures x c.in_ok-start.ensures in
+    Walk.cycle_body h c.in_err-body.ensures)
 
 pub cycle-put_head-requires : goal.cycle-put_head-requires
-cycle-put_head-requires t c = let k = rw (← c.word-one.ensures) at c.requires.there_is.is in
-    let te = rw (← c.word-one.ensures) at (c.condition-test.ensures k.test (Walk.cycle_condition c.word-one.ensures k)) in
-    Walk.cycle_room c.requires.typing_room k te c.in-Done.is c.lanes.ensures c.joined.ensures (c.branch-walked.ensures k.body k.its_body) c.in_Done-walked.is c.condition-test.auto.code c.branch-walked.auto.code
+cycle-put_head-requires t c = let h = Walk.begun c.requires.typing_room c.word-one.ensures c.requires.there_is.is c.in_ok-start.ensures in
+    Walk.cycle_room h c.in_ok-body.ensures c.inside.auto.code c.branch-nest.auto.code
 
 pub cycle-returns : goal.cycle-returns
-cycle-returns t c = λ s x.
-    let k = rw (← c.word-one.ensures) at x in
-    let te = rw (← c.word-one.ensures) at (c.condition-test.ensures k.test (Walk.cycle_condition c.word-one.ensures k)) in
-    Walk.cycle_ok c.requires.typing_room k te c.in-Done.is c.lanes.ensures c.joined.ensures (c.branch-walked.ensures k.body k.its_body) c.in_Done-walked.is c.condition-test.auto.code c.branch-walked.auto.code (rw (← c.word-one.ensures) at c.put_head.ensures)
+cycle-returns t c = λ s x. let h = Walk.begun c.requires.typing_room c.word-one.ensures x c.in_ok-start.ensures in
+    Walk.cycle_ok h c.in_ok-body.ensures c.inside.auto.code c.branch-nest.auto.code c.put_head.ensures
 
 -- ---- a statement, by its tag
 pub statement-bounds-tree-0 : goal.statement-bounds-tree-0
-statement-bounds-tree-0 t c = omega (arith, long_shape (shape c.requires.there_is.is))
+statement-bounds-tree-0 t c = omega (arith, long_shape (shape refl c.requires.there_is.is))
 
 pub statement-empty-requires : goal.statement-empty-requires
-statement-empty-requires t c = let e = empty_shape (rw c.in-52.is at (shape c.requires.there_is.is)) in
+statement-empty-requires t c = let e = empty_shape (shape c.in-52.is c.requires.there_is.is) in
     (record { the = c.requires.there_is.the; is = e }, omega (arith, c.requires.typing_room.code_room, e.long))
 
+pub statement-assignment-requires-clause-there_is : goal.statement-assignment-requires-clause-there_is
+statement-assignment-requires-clause-there_is t c = record { the = c.requires.there_is.the; is = assign_shape (shape c.in-2.is c.requires.there_is.is) }
+
 pub statement-overflow_sub-nest : goal.statement-overflow_sub-nest
-statement-overflow_sub-nest t c = (braces_shape (rw c.in-53.is at (shape c.requires.there_is.is))).0
+statement-overflow_sub-nest t c = (braces_shape (shape c.in-53.is c.requires.there_is.is)).0
 
 pub statement-braces-requires : goal.statement-braces-requires
-statement-braces-requires t c = let k = braces_shape (rw c.in-53.is at (shape c.requires.there_is.is)) in
+statement-braces-requires t c = let k = braces_shape (shape c.in-53.is c.requires.there_is.is) in
     (omega (arith, c.decreases, k.0), (c.requires.typing_room, record { the = c.requires.there_is.the; is = k.1 }))
 
-pub statement-assignment-requires-clause-there_is : goal.statement-assignment-requires-clause-there_is
-statement-assignment-requires-clause-there_is t c = record { the = c.requires.there_is.the; is = assign_shape (rw c.in-2.is at (shape c.requires.there_is.is)) }
-
 pub statement-overflow_sub-nest-in-19 : goal.statement-overflow_sub-nest-in-19
-statement-overflow_sub-nest-in-19 t c = (choice_shape (rw c.in-19.is at (shape c.requires.there_is.is))).0
+statement-overflow_sub-nest-in-19 t c = (choice_shape (shape c.in-19.is c.requires.there_is.is)).0
 
 pub statement-choice-requires : goal.statement-choice-requires
-statement-choice-requires t c = let k = choice_shape (rw c.in-19.is at (shape c.requires.there_is.is)) in
+statement-choice-requires t c = let k = choice_shape (shape c.in-19.is c.requires.there_is.is) in
     (omega (arith, c.decreases, k.0), (c.requires.typing_room, record { the = c.requires.there_is.the; is = k.1 }))
 
 pub statement-overflow_sub-nest-in-21 : goal.statement-overflow_sub-nest-in-21
-statement-overflow_sub-nest-in-21 t c = (cycle_shape (rw c.in-21.is at (shape c.requires.there_is.is))).0
+statement-overflow_sub-nest-in-21 t c = (cycle_shape (shape c.in-21.is c.requires.there_is.is)).0
 
 pub statement-cycle-requires : goal.statement-cycle-requires
-statement-cycle-requires t c = let k = cycle_shape (rw c.in-21.is at (shape c.requires.there_is.is)) in
+statement-cycle-requires t c = let k = cycle_shape (shape c.in-21.is c.requires.there_is.is) in
     (omega (arith, c.decreases, k.0), (c.requires.typing_room, record { the = c.requires.there_is.the; is = k.1 }))
 
 pub statement-overflow_sub-nest-in-22 : goal.statement-overflow_sub-nest-in-22
-statement-overflow_sub-nest-in-22 t c = (alone_shape (rw c.in-22.is at (shape c.requires.there_is.is))).0
+statement-overflow_sub-nest-in-22 t c = (alone_shape (shape c.in-22.is c.requires.there_is.is)).0
 
 pub statement-alone-requires : goal.statement-alone-requires
-statement-alone-requires t c = let k = alone_shape (rw c.in-22.is at (shape c.requires.there_is.is)) in
+statement-alone-requires t c = let k = alone_shape (shape c.in-22.is c.requires.there_is.is) in
     (omega (arith, c.decreases, k.0), (c.requires.typing_room, record { the = c.requires.there_is.the; is = k.1 }))
 
 pub statement-declaration-requires-clause-there_is : goal.statement-declaration-requires-clause-there_is
-statement-declaration-requires-clause-there_is t c = record { the = c.requires.there_is.the; is = declare_shape (shape c.requires.there_is.is) (λ z. omega arith) (λ z. omega arith) (λ z. omega arith) (λ z. omega arith) (λ z. omega arith) (λ z. omega arith) }
+statement-declaration-requires-clause-there_is t c = record { the = c.requires.there_is.the; is = declare_shape (shape refl c.requires.there_is.is) (λ z. omega arith) (λ z. omega arith) (λ z. omega arith) (λ z. omega arith) (λ z. omega arith) (λ z. omega arith) }
 
 pub statement-returns-in-52 : goal.statement-returns-in-52
-statement-returns-in-52 t c = λ s x. let e = empty_shape (rw c.in-52.is at (shape x)) in Walk.step_walks c.requires.typing_room e.long (c.empty.ensures s e)
-
-pub statement-returns-in-53 : goal.statement-returns-in-53
-statement-returns-in-53 t c = λ s x. c.braces.ensures s (braces_shape (rw c.in-53.is at (shape x))).1
+statement-returns-in-52 t c = λ s x. let e = empty_shape (shape c.in-52.is x) in Walk.step_walks c.requires.typing_room e.long (c.empty.ensures s e)
 
 pub statement-returns-in-2 : goal.statement-returns-in-2
-statement-returns-in-2 t c = λ s x. c.assignment.ensures s (assign_shape (rw c.in-2.is at (shape x)))
+statement-returns-in-2 t c = λ s x. c.assignment.ensures s (assign_shape (shape c.in-2.is x))
+
+pub statement-returns-in-53 : goal.statement-returns-in-53
+statement-returns-in-53 t c = λ s x. c.braces.ensures s (braces_shape (shape c.in-53.is x)).1
 
 pub statement-returns-in-19 : goal.statement-returns-in-19
-statement-returns-in-19 t c = λ s x. c.choice.ensures s (choice_shape (rw c.in-19.is at (shape x))).1
+statement-returns-in-19 t c = λ s x. c.choice.ensures s (choice_shape (shape c.in-19.is x)).1
 
 pub statement-returns-in-21 : goal.statement-returns-in-21
-statement-returns-in-21 t c = λ s x. c.cycle.ensures s (cycle_shape (rw c.in-21.is at (shape x))).1
+statement-returns-in-21 t c = λ s x. c.cycle.ensures s (cycle_shape (shape c.in-21.is x)).1
 
 pub statement-returns-in-22 : goal.statement-returns-in-22
-statement-returns-in-22 t c = λ s x. c.alone.ensures s (alone_shape (rw c.in-22.is at (shape x))).1
+statement-returns-in-22 t c = λ s x. c.alone.ensures s (alone_shape (shape c.in-22.is x)).1
 
 pub statement-returns-in_default : goal.statement-returns-in_default
-statement-returns-in_default t c = λ s x. c.declaration.ensures s (declare_shape (shape x) (λ z. omega arith) (λ z. omega arith) (λ z. omega arith) (λ z. omega arith) (λ z. omega arith) (λ z. omega arith))
+statement-returns-in_default t c = λ s x. c.declaration.ensures s (declare_shape (shape refl x) (λ z. omega arith) (λ z. omega arith) (λ z. omega arith) (λ z. omega arith) (λ z. omega arith) (λ z. omega arith))
 
 -- ---- a sequence
 pub statements-loop-i-init : goal.statements-loop-i-init
@@ -224,20 +170,19 @@ pub statements-word-requires : goal.statements-word-requires
 statements-word-requires t c = omega (arith, sequel_inside c.loop-i.invariant c.loop-i-test.true refl)
 
 pub statements-slice_bounds-statement-end : goal.statements-slice_bounds-statement-end
-statements-slice_bounds-statement-end t c = let loop = c.loop-i in sequel_inside loop.invariant c.loop-i-test.true (ap (λ n. loop.i + 3 + n) c.word.ensures)
+statements-slice_bounds-statement-end t c = let loop = c.loop-i in sequel_inside loop.invariant c.loop-i-test.true c.word.ensures
 
-pub statements-statement-one-requires : goal.statements-statement-one-requires
-statements-statement-one-requires t c = let loop = c.loop-i in
-    let end = ap (λ n. loop.i + 3 + n) c.word.ensures in
-    (omega (arith, c.decreases), (sequel_room loop.invariant c.loop-i-test.true end, sequel_statement loop.invariant c.loop-i-test.true end))
+pub statements-statement-requires : goal.statements-statement-requires
+statements-statement-requires t c = let loop = c.loop-i in
+    (omega (arith, c.decreases), (sequel_room loop.invariant c.loop-i-test.true c.word.ensures, sequel_statement loop.invariant c.loop-i-test.true c.word.ensures))
 
-pub statements-returns-in_default : goal.statements-returns-in_default
-statements-returns-in_default t c = let loop = c.loop-i in
-    λ l x. sequel_refused loop.invariant c.loop-i-test.true (ap (λ n. loop.i + 3 + n) c.word.ensures) c.statement-one.ensures c.in_default.is l x
+pub statements-returns-in_err-so_far : goal.statements-returns-in_err-so_far
+statements-returns-in_err-so_far t c = let loop = c.loop-i in
+    rw (handed_up c.from_residual.result c.from_residual.ensures.1) (sequel_refused loop.invariant c.loop-i-test.true c.word.ensures c.in_err-so_far.ensures)
 
 pub statements-loop-i-preserved : goal.statements-loop-i-preserved
 statements-loop-i-preserved t c = let loop = c.loop-i in
-    sequel_next loop.invariant c.loop-i-test.true (ap (λ n. loop.i + 3 + n) c.word.ensures) c.statement-one.ensures c.in-Done.is c.statement-one.auto.table c.statement-one.auto.code c.statement-one.auto.stack
+    sequel_next loop.invariant c.loop-i-test.true c.word.ensures c.in_ok-so_far.ensures c.statement.auto.table c.statement.auto.code c.statement.auto.stack
 
 pub statements-returns : goal.statements-returns
 statements-returns t c = sequel_end c.loop-i.invariant c.loop-i-test.false

@@ -26,7 +26,7 @@ abbrev pub decreases-statements : goal.decreases-statements
 decreases-statements l = l.nest * 4 + 1
 
 abbrev pub invariant-statements-loop-i : goal.invariant-statements-loop-i
-invariant-statements-loop-i l = Sequel l.text l.tree l.nest (record { context = l.context; count = l.initial.n; size = l.initial.z }) l.initial.table l.initial.code l.initial.stack l.table l.code l.stack l.i l.n l.z
+invariant-statements-loop-i l = Sequel l.text l.tree l.nest l.at l.initial.table l.initial.code l.initial.stack l.table l.code l.stack l.i l.so_far.count l.so_far.size
 
 abbrev pub decreases-statements-loop-i : goal.decreases-statements-loop-i
 decreases-statements-loop-i l = length l.tree - l.i

@@ -1,10 +1,6 @@
--- What each turn of the loop of `typing_expressions::close` keeps, and what falls with it.
-use Prim.Native.Nat.{◌-◌, ◌≤◌}
+-- What each turn of the loop of `typing_expressions::close` keeps.
 use Rattle.typing_expressions.proofs.Tables.{Shut}
 use Rattle.typing_expressions.proofs.close.Given as goal
 
 abbrev pub invariant-loop-i : goal.invariant-loop-i
-invariant-loop-i l = Shut l.from l.i l.initial.table l.table × (l.from ≤ l.i) × (l.i ≤ l.count)
-
-abbrev pub decreases-loop-i : goal.decreases-loop-i
-decreases-loop-i l = l.count - l.i
+invariant-loop-i l = Shut l.from l.i l.initial.table l.table

@@ -1,8 +1,12 @@
 -- `typing_expressions::matches` meets its contract. Assumes nothing.
-use mathlib.Core.Path.{refl}
+use Rattle.std.proofs.Common.{rules}
 use Rattle.meaning.specs.Typing.{match}
 use Rattle.typing_expressions.proofs.matches.Goals as goal
 
-pub returns : goal.returns
+pub returns-then-n-eq1 : goal.returns-then-n-eq1
 unfolding match
-returns c = refl
+returns-then-n-eq1 c = search rules
+
+pub returns-else-n-eq1 : goal.returns-else-n-eq1
+unfolding match
+returns-else-n-eq1 c = search rules

@@ -1,17 +1,8 @@
 -- `typing_expressions::takes_floats` meets its contract. Assumes nothing.
-use borrow.Enum.Refused.{opened}
-use mathlib.Core.Path.{refl}
-use mathlib.Core.Bool.{true, false}
-use mathlib.Core.List.{[], ◌∷◌}
-use Rattle.meaning.specs.declared.Kind.TheVariants.{Float as float}
+use Rattle.std.proofs.Common.{rules}
 use Rattle.meaning.specs.Tree.{kind_number, same_kind, ◌one_of◌, table}
-use Rattle.typing_expressions.proofs.Tags.{takes, on_arm}
 use Rattle.typing_expressions.proofs.takes_floats.Goals as goal
 
-pub returns-in-Or : goal.returns-in-Or
+pub returns : goal.returns
 unfolding table kind_number same_kind ◌one_of◌
-returns-in-Or c = on_arm (takes float) false (0 ∷ 1 ∷ 2 ∷ []) refl c.args.operator (assumption)
-
-pub returns-in_default : goal.returns-in_default
-unfolding table kind_number same_kind ◌one_of◌
-returns-in_default c = on_arm (takes float) true (3 ∷ 4 ∷ 5 ∷ 6 ∷ 7 ∷ 8 ∷ 9 ∷ 10 ∷ 11 ∷ []) refl c.args.operator (search opened)
+returns c = search rules

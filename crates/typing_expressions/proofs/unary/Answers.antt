@@ -6,8 +6,8 @@ use Rattle.typing_expressions.proofs.unary.Goals as goal
 
 pub returns-then-not-unary_takes : goal.returns-then-not-unary_takes
 unfolding step
-returns-then-not-unary_takes c = λ Γ. node_refused (rw (one_slot c.args.stack.now c.args.i, ← c.kind-kind.ensures, ← c.unary_takes.ensures, c.if-not-unary_takes.true))
+returns-then-not-unary_takes c = λ Γ. node_refused (rw (one_slot c.args.stack.now c.args.i, ← c.kind-kind.ensures, ← c.if-not-unary_takes.ensures))
 
 pub returns : goal.returns
 unfolding step
-returns c = λ Γ. node_put c.put.ensures (omega arith) (rw (one_slot c.args.stack.now c.args.i, ← c.kind-kind.ensures, ← c.lanes-length.ensures, ← c.unary_takes.ensures, c.if-not-unary_takes.false, c.kind_number.ensures))
+returns c = λ Γ. node_put c.put.ensures (omega arith) (rw (one_slot c.args.stack.now c.args.i, ← c.kind-kind.ensures, ← c.lanes-length.ensures, ← c.if-not-unary_takes.ensures, c.from.ensures))

@@ -1,17 +1,19 @@
 -- `typing_expressions::whole` meets its contract. Assumes nothing.
-use borrow.Enum.Refused.{opened}
+use mathlib.Core.Path.{ap}
+use Prim.Native.Nat.{◌*◌}
 use native.Mathlib.Omega.{arith}
-use Rattle.meaning.specs.Memory.{whole, size}
+use Rattle.std.proofs.lemmas.Nat.{mul-le}
+use Rattle.meaning.specs.Memory.{whole}
 use Rattle.laws.proofs.Declarations.{listed_few}
-use Rattle.typing_expressions.proofs.Tags.{four_bytes}
+use Rattle.typing_expressions.proofs.Tags.{size_few}
 use Rattle.typing_expressions.proofs.whole.Goals as goal
 
+pub overflow_cast-result : goal.overflow_cast-result
+overflow_cast-result c = omega (arith, size_few c.args.kind)
+
 pub overflow_mul-result : goal.overflow_mul-result
-overflow_mul-result c = omega (arith, listed_few _ c.requires.is)
+overflow_mul-result c = omega (arith, rw (← c.size.ensures) at (mul-le _ _ _ _ (listed_few _ c.requires.is) (size_few c.args.kind)))
 
-pub returns-in-Int : goal.returns-in-Int
-returns-in-Int c = four_bytes c.args.kind c.args.length (search opened)
-
-pub returns-in-Bool : goal.returns-in-Bool
-unfolding whole size
-returns-in-Bool c = rw c.in-Bool.is (omega arith)
+pub returns : goal.returns
+unfolding whole
+returns c = ap (λ s. c.args.length * s) c.size.ensures

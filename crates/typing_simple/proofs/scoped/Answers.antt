@@ -1,15 +1,13 @@
 -- `typing_simple::scoped` meets its contract. Assumes nothing.
-use Prim.Native.Nat.{ℕ}
-use mathlib.Core.Path.{◌≡◌, refl, sym}
-use native.Mathlib.Omega.{arith}
-use Rattle.typing_simple.proofs.Outcomes.{closes_at}
+use mathlib.Core.Path.{sym, ◌∙◌}
+use Rattle.layout.proofs.Handed.{handed_up}
 use Rattle.typing_simple.proofs.scoped.Goals as goal
 
-pub returns-in_default : goal.returns-in_default
-returns-in_default c = record { same = refl; closes = λ n z q. absurd (let y : ◌≡◌ {A = ℕ} 0 1 = cc c.in_default.is in omega arith) }
+pub returns-in_err-reached : goal.returns-in_err-reached
+returns-in_err-reached c = record { same = handed_up c.from_residual.result c.from_residual.ensures.1 ∙ sym c.in_err-reached.was; closes = rw c.in_err-reached.was tt }
 
 pub close-requires : goal.close-requires
-close-requires c = let o = c.requires _ _ c.in-Done.is in (o.order, o.few, o.room)
+close-requires c = let o = rw c.in_ok-reached.was at c.requires in (o.order, o.few, o.room)
 
 pub returns : goal.returns
-returns c = record { same = sym c.in-Done.is; closes = λ n z q. closes_at c.in-Done.is q c.close.ensures }
+returns c = record { same = sym c.in_ok-reached.was; closes = rw c.in_ok-reached.was c.close.ensures }

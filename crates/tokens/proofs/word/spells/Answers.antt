@@ -18,11 +18,11 @@ first_letters row long is = sym (is ∙ rw (four_letters row 0 (omega arith)))
 
 pub returns-then-one-first : goal.returns-then-one-first
 unfolding spelled
-returns-then-one-first c = rw (first_letters c.args.row.now c.requires c.int_of-one.ensures, ne_eqb c.int_of-one.result _ c.if-one-first.true)
+returns-then-one-first c = rw (first_letters c.args.row.now c.told-row c.int_of-one.ensures, ne_eqb c.int_of-one.result _ c.if-one-first.true)
 
 pub returns : goal.returns
 unfolding lane_of spelled
 returns c = let row = c.args.row.now in
     let two : number_of (letters row 4) ≡ c.int_of-two.result = sym (c.int_of-two.ensures ∙ rw (four_letters row 4 (omega arith))) in
     let three : number_of (letters row 8) ≡ c.int_of-three.result = sym (c.int_of-three.ensures ∙ rw (four_letters row 8 (omega arith))) in
-    rw (first_letters row c.requires c.int_of-one.ensures, eq-eqb c.int_of-one.result _ c.if-one-first.false, two, three)
+    rw (first_letters row c.told-row c.int_of-one.ensures, eq-eqb c.int_of-one.result _ c.if-one-first.false, two, three)
