@@ -6,11 +6,10 @@ use mathlib.Core.List.{List, [], ◌∷◌, ◌++◌, append_assoc}
 use native.Mathlib.Nat.{pow-suc}
 use native.Mathlib.Omega.{arith}
 use lib.Dec.{ltb}
-use lib.ListN.{length, get_or, length-append}
+use lib.ListN.{length, length-append}
 use borrow.Author.Tests.{ltb-true, ltb-false, lt-ltb, le-ltb}
 use Rattle.meaning.specs.Codes.{when◌then◌else◌}
 use Rattle.meaning.specs.Tokens.{bytes}
-use Rattle.meaning.specs.Memory.{number_of}
 use Rattle.meaning.specs.Services.{answer}
 use Rattle.print.specs.Printed.{Printed}
 use Rattle.print.specs.Shown.{digit, digits, decimal, line}
@@ -67,13 +66,3 @@ line-length a b c d = rw (← line_is a b c d) (simp length-append (omega arith)
 -- Where a number and the byte that ends it end.
 pub ended_at : {a b : List ℕ} {i j : ℕ} (n e : ℕ) → Printed a i (decimal n ++ (e ∷ [])) b j → j ≡ i + length (decimal n) + 1
 ended_at n e p = omega (arith, p.next_is, length-append (decimal n) (e ∷ []))
-
--- The number of four bytes.
-pub number_in : (l : List ℕ) → length l ≡ 4 → get_or l 0 0 + get_or l 1 0 * 256 + get_or l 2 0 * 65536 + get_or l 3 0 * 16777216 ≡ number_of l
-unfolding number_of
-number_in [] h = absurd (omega arith)
-number_in (a ∷ []) h = absurd (omega arith)
-number_in (a ∷ b ∷ []) h = absurd (omega arith)
-number_in (a ∷ b ∷ c ∷ []) h = absurd (omega arith)
-number_in (a ∷ b ∷ c ∷ d ∷ []) h = omega arith
-number_in (a ∷ b ∷ c ∷ d ∷ e ∷ l) h = absurd (omega arith)

@@ -1,21 +1,21 @@
 // What the program `show` prints, as bytes in a lent page: the four numbers of an answer, then a memory in rows of hex.
 #![tactic(auto)]
 
-ghost use Rattle.std.specs.Prelude.{[], ◌∷◌, ◌++◌, ◌≡◌, ◌+◌, ◌≤◌, ◌<◌, min, length};
-ghost use Rattle.meaning.specs.Memory.{number_of};
+ghost use Rattle.std.specs.Prelude.{[], ◌∷◌, ◌++◌, ◌≡◌, ◌+◌, ◌≤◌, ◌<◌, length};
 ghost use Rattle.meaning.specs.Services.{answer};
-ghost use Rattle.numbers.specs.Sizes.{number_bytes, four_bytes};
-ghost use Rattle.print.specs.Shown.{row_size, held, digit, decimal, line, hex, rows, row_count, shown};
+ghost use Rattle.numbers.specs.Sizes.{four_bytes};
+ghost use Rattle.print.specs.Shown.{held, digit, decimal, line, hex, rows, row_count, shown};
 ghost use Rattle.print.specs.Printed.{Printed};
 
-use numbers::{FOUR, NUMBER};
+use meaning::WORD;
+use numbers::number_at;
 
 // Where the second, third and fourth number of an answer slice begin.
-const PLACE: usize = NUMBER;
+const PLACE: usize = WORD;
 
-const NEED: usize = 2 * NUMBER;
+const NEED: usize = 2 * WORD;
 
-const STEPS: usize = 3 * NUMBER;
+const STEPS: usize = 3 * WORD;
 
 // The bytes of a row.
 const ROW: usize = 16;
@@ -27,34 +27,21 @@ const DIGITS: [u8; 16] = [
 
 // The four numbers of an answer slice on one line, then a memory in rows, at the start of the page; answers how many bytes
 // that is.
+// No Vec and no `write!`: each can fail, and here no printing can, so that the program ends alike on every input.
 pub fn put_shown(page: &mut [u8], answer: &[u8], memory: &[u8]) -> usize
     requires { (four_bytes ≤ length answer.now) × (length (shown (held answer.now, memory.now)) ≤ length page.old) }
     ensures { Printed page.old 0 (shown (held answer.now, memory.now)) page.new result }
 {
-    let code = number_in(&answer[..PLACE]);
-    let place = number_in(&answer[PLACE..NEED]);
-    let need = number_in(&answer[NEED..STEPS]);
-    let steps = number_in(&answer[STEPS..FOUR]);
+    let code = number_at(answer, 0);
+    let place = number_at(answer, PLACE);
+    let need = number_at(answer, NEED);
+    let steps = number_at(answer, STEPS);
     let at = put_line(page, 0, code, place, need, steps);
     put_rows(page, at, memory)
 }
 
-// A byte as a number of 32 bits.
-fn wide(byte: u8) -> u32
-    ensures { (result ≡ byte) × (result < 256) }
-{
-    byte as u32
-}
-
-// The number that four bytes hold, the lowest first.
-fn number_in(four: &[u8]) -> u32
-    requires { length four.now ≡ number_bytes }
-    ensures { result ≡ number_of four.now }
-{
-    wide(four[0]) + wide(four[1]) * 256 + wide(four[2]) * 65536 + wide(four[3]) * 16777216
-}
-
 // The byte of a digit below 16.
+#[tactic(auto, unfolding(crate::specs::Shown::digit))]
 fn digit_of(number: u8) -> u8
     requires { number < 16 }
     ensures { result ≡ digit number }
@@ -111,27 +98,13 @@ fn put_hex(page: &mut [u8], at: usize, bytes: &[u8]) -> usize
     ensures { Printed page.old at (hex bytes.now) page.new result }
 {
     let mut next = at;
-    let mut i = 0;
-    while i < bytes.len() {
-        let high = digit_of(bytes[i] / 16);
-        let low = digit_of(bytes[i] % 16);
+    for &byte in bytes {
+        let high = digit_of(byte / 16);
+        let low = digit_of(byte % 16);
         let middle = put(page, next, high);
         next = put(page, middle, low);
-        i += 1;
     }
     next
-}
-
-// Where the row that starts at `from` ends.
-fn row_end(from: usize, length: usize) -> usize
-    requires { from < length }
-    ensures { result ≡ min (from + row_size) length }
-{
-    if length - from < ROW {
-        length
-    } else {
-        from + ROW
-    }
 }
 
 // All rows of a memory.
@@ -139,15 +112,10 @@ fn put_rows(page: &mut [u8], at: usize, memory: &[u8]) -> usize
     requires { at + length (rows (row_count memory.now) memory.now) ≤ length page.old }
     ensures { Printed page.old at (rows (row_count memory.now) memory.now) page.new result }
 {
-    let count = (memory.len() + (ROW - 1)) / ROW;
     let mut next = at;
-    let mut i = 0;
-    while i < count {
-        let from = i * ROW;
-        let end = row_end(from, memory.len());
-        let ended = put_hex(page, next, &memory[from..end]);
+    for row in memory.chunks(ROW) {
+        let ended = put_hex(page, next, row);
         next = put(page, ended, b'\n');
-        i += 1;
     }
     next
 }

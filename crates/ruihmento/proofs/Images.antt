@@ -1,27 +1,27 @@
 -- What a loop over images leaves, and what a call that runs each of them does.
 use Prim.Native.Nat.{ℕ, suc, ◌+◌, ◌*◌, ◌-◌, ◌/◌, ◌≤◌, ◌<◌, min}
 use mathlib.Core.Path.{◌≡◌, refl, sym, subst, ◌∙◌}
-use mathlib.Core.List.{List, [], ◌∷◌, ◌++◌, append-nil}
+use mathlib.Core.List.{List, ◌++◌, append-nil}
 use native.Mathlib.Omega.{arith}
 use native.Mathlib.Numerals.{add-one}
-use native.Mathlib.Nat.{le_refl, min-eq_left, min-eq_right}
+use native.Mathlib.Nat.{le_refl}
 use lib.ListN.{length, take, drop, length-take, length-drop, take-append-drop, drop_of_length-le}
 use lib.Seq.{length-take-le, take-length}
 use borrow.Author.Tests.{le-leb, lt-leb}
-use Rattle.meaning.specs.declared.Refusal.{Refusal}
+use Rattle.std.specs.declared.result.Result.TheVariants.{Ok, Err}
 use Rattle.meaning.specs.Codes.{code, Out, ok}
 use Rattle.meaning.specs.Program.{Program}
 use Rattle.meaning.specs.Memory.{Memory, Declarations}
 use Rattle.meaning.specs.Services.{Answer, answer, program_run, executed, run, in_a_row, numbers, with_numbers, answer_bytes, how_many, each, run_call, run_each_call, Kept}
-use Rattle.layout.specs.declared.Stage.{Stage}
-use Rattle.layout.specs.declared.Stage.TheVariants.{Done, Refused}
+use Rattle.layout.specs.declared.Reached.{Reached}
+use Rattle.layout.specs.declared.Refused.{Refused}
 use Rattle.layout.specs.Table.{entries}
 use Rattle.laws.proofs.Images.{whole_images, whole_answers, goes_on, goes_on_first, goes_on_last, goes_on_more}
 use Rattle.numbers.specs.Sizes.{four_bytes}
 use Rattle.judge.specs.Contract.{JudgesText}
-use Rattle.ruihmento.specs.Contract.{Leaves, ImagesRoom, LeavesEach, RefusesEach}
+use Rattle.ruihmento.specs.Contract.{with_refusal, Leaves, ImagesRoom, LeavesEach, RefusesEach}
 use Rattle.ruihmento.proofs.Slices.{not_called, kept}
-use Rattle.ruihmento.proofs.Judging.{known, is_refused, is_accepted}
+use Rattle.ruihmento.proofs.Judging.{is_refused, is_accepted}
 
 -- How many stand whole, by the tests.
 module _ (size : ℕ) (images answers : List ℕ) where
@@ -29,16 +29,9 @@ module _ (size : ℕ) (images answers : List ℕ) where
   unfolding how_many
   none_whole e = let h : size < 1 = omega arith in rw (lt-leb 1 size h)
 
-  module _ (some : 1 ≤ size) where
-    some_whole : how_many size images answers ≡ min (length images / size) (length answers / answer_bytes)
-    unfolding how_many
-    some_whole = rw (le-leb 1 size some)
-
-    pub fewer_images : length images / size < length answers / answer_bytes → length images / size ≡ how_many size images answers
-    fewer_images h = sym (some_whole ∙ min-eq_left (omega arith))
-
-    pub fewer_answers : length answers / answer_bytes ≤ length images / size → length answers / answer_bytes ≡ how_many size images answers
-    fewer_answers h = sym (some_whole ∙ min-eq_right h)
+  pub some_whole : 1 ≤ size → min (length images / size) (length answers / answer_bytes) ≡ how_many size images answers
+  unfolding how_many
+  some_whole some = rw (le-leb 1 size some)
 
 -- The bytes of a part.
 pub part_bytes : (at size : ℕ) → at + size - at ≡ size
@@ -84,37 +77,29 @@ module _ (by : Memory → Answer × Memory) (size count : ℕ) (images₀ answer
         let room : size ≤ length (drop (k * size) images) = simp length-drop (omega arith) in
         rw (n, m) (one ((rw n at as_long) ∙ length-take-le size (drop (k * size) images) room) (rw (n, m) at left))
 
+-- What is told of a text that is refused, whatever the memory.
+abbrev pub refusal_of : Refused → Memory → Answer × Memory
+refusal_of why M = (answer (code why.refusal) why.place 0 0, M)
+
 -- A refusal told of one more, whose image stays.
-pub one_refused : (c p size count : ℕ) (images answers₀ : List ℕ) (k : ℕ) {answers told : List ℕ} → k < count → k * size + size ≤ length images → k * answer_bytes + answer_bytes ≤ length answers
-    → SoFar (λ M. (answer c p 0 0, M)) size count images answers₀ k images answers → {m : ℕ} → m ≡ answer_bytes → told ≡ with_numbers (c ∷ p ∷ 0 ∷ 0 ∷ []) (take m (drop (k * answer_bytes) answers))
-    → SoFar (λ M. (answer c p 0 0, M)) size count images answers₀ (k + 1) images (take (k * answer_bytes) answers ++ (told ++ drop m (drop (k * answer_bytes) answers)))
-unfolding answer numbers
-one_refused c p size count images answers₀ k more image_fits answer-fits so_far m w =
+pub one_refused : (why : Refused) (size count : ℕ) (images answers₀ : List ℕ) (k : ℕ) {answers told : List ℕ} → k < count → k * size + size ≤ length images → k * answer_bytes + answer_bytes ≤ length answers
+    → SoFar (refusal_of why) size count images answers₀ k images answers → {m : ℕ} → m ≡ answer_bytes → told ≡ with_refusal why (take m (drop (k * answer_bytes) answers))
+    → SoFar (refusal_of why) size count images answers₀ (k + 1) images (take (k * answer_bytes) answers ++ (told ++ drop m (drop (k * answer_bytes) answers)))
+unfolding answer numbers with_refusal
+one_refused why size count images answers₀ k more image_fits answer-fits so_far m w =
     rw (take-append-drop size (drop (k * size) images), take-append-drop (k * size) images)
     at (one_more _ size count images answers₀ k more image_fits answer-fits so_far refl m refl (record { written_is = w; after_is = refl }))
 
--- A refusal that was told of all images, by its number; and none, of which nothing is told.
-module _ {judged : Stage} {count : ℕ} {answers : List ℕ} where
-  pub all_refused : {c : Refusal} {p k : ℕ} {answers' : List ℕ} → judged ≡ Refused c p → k ≡ code c
-      → ((size : ℕ) (images : List ℕ) → ImagesRoom size count images answers → LeavesEach (λ M. (answer k p 0 0, M)) size count images answers images answers')
-      → RefusesEach judged count answers answers'
-  all_refused {c} {p} e k told d q size images g room =
-      let same : c ≡ d = cc in
-      let there : p ≡ q = cc in rw (← same, ← there, ← k) (told size images room)
-
-  pub none_refused : {n z : ℕ} {answers' : List ℕ} → judged ≡ Done n z → RefusesEach judged count answers answers'
-  none_refused e d q size images g room = let z : ◌≡◌ {A = ℕ} 0 1 = cc in absurd (omega arith)
-
 -- A text that was judged once: refused for every image, or run over each.
 module _ {text table words : List ℕ} (budget size count : ℕ) {images answers : List ℕ} where
-  pub each_refused : {r : Stage} {c : Refusal} {p : ℕ} {answers' : List ℕ} → JudgesText text table words r → r ≡ Refused c p → ImagesRoom size count images answers → RefusesEach r count answers answers'
+  pub each_refused : {why : Refused} {answers' : List ℕ} → JudgesText text table words (Err why) → ImagesRoom size count images answers → RefusesEach why count answers answers'
       → LeavesEach (λ M. run text M budget) size count images answers images answers'
   unfolding run executed
-  each_refused {c = c} {p} {answers'} g e room refuses =
-      subst (λ (o : Out Declarations Program). LeavesEach (λ M. executed program_run M budget o) size count images answers images answers') (sym (is_refused (known g e))) (refuses c p size images e room)
+  each_refused {answers' = answers'} g room refuses =
+      subst (λ (o : Out Declarations Program). LeavesEach (λ M. executed program_run M budget o) size count images answers images answers') (sym (is_refused g)) (refuses size images room)
 
-  pub each_accepted : {n z : ℕ} {images' answers' : List ℕ} (g : JudgesText text table words (Done n z)) → LeavesEach (λ M. executed program_run M budget (ok g.program (entries text table n))) size count images answers images' answers'
-      → LeavesEach (λ M. run text M budget) size count images answers images' answers'
+  pub each_accepted : {reached : Reached} {images' answers' : List ℕ} (g : JudgesText text table words (Ok reached))
+      → LeavesEach (λ M. executed program_run M budget (ok g.program (entries text table reached.count))) size count images answers images' answers' → LeavesEach (λ M. run text M budget) size count images answers images' answers'
   unfolding run
   each_accepted {images' = images'} {answers'} g l = subst (λ (o : Out Declarations Program). LeavesEach (λ M. executed program_run M budget o) size count images answers images' answers') (sym (is_accepted g)) l
 

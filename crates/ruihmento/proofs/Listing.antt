@@ -1,22 +1,21 @@
 -- What the verdict of a text makes of the listing of its variables.
-use Prim.Native.Nat.{ℕ, zero, suc, ◌*◌, ◌≤◌, ◌<◌}
+use Prim.Native.Nat.{ℕ, zero, suc, ◌≤◌, ◌<◌}
 use mathlib.Core.Path.{◌≡◌, refl, sym, ap, ◌∙◌}
 use mathlib.Core.List.{List, [], ◌∷◌, map, map-append}
-use native.Mathlib.Omega.{arith}
 use lib.ListN.{length, drop}
-use Rattle.meaning.specs.declared.Refusal.{Refusal}
-use Rattle.meaning.specs.Codes.{code, declaration_limit}
+use Rattle.std.specs.declared.result.Result.TheVariants.{Ok, Err}
+use Rattle.meaning.specs.Codes.{code}
 use Rattle.meaning.specs.Memory.{Declared, Declarations, need}
 use Rattle.meaning.specs.Services.{with_numbers, verdict, listed, table_of, variables, variables_call, Kept}
-use Rattle.layout.specs.declared.Stage.{Stage}
-use Rattle.layout.specs.declared.Stage.TheVariants.{Done, Refused}
-use Rattle.layout.specs.Table.{row_words, entry, entries}
+use Rattle.layout.specs.declared.Reached.{Reached}
+use Rattle.layout.specs.declared.Refused.{Refused}
+use Rattle.layout.specs.Table.{entry, entries}
 use Rattle.numbers.specs.Sizes.{four_bytes}
 use Rattle.typing_expressions.proofs.Names.{length-entries}
 use Rattle.judge.specs.Contract.{JudgesText}
 use Rattle.ruihmento.specs.Contract.{with_refusal, Leaves}
 use Rattle.ruihmento.proofs.Slices.{not_called, kept, leaves}
-use Rattle.ruihmento.proofs.Judging.{known, is_refused, is_accepted, accepts}
+use Rattle.ruihmento.proofs.Judging.{is_refused, is_accepted}
 
 -- A record of the listing has no name in it.
 nameless : Declared → Declared
@@ -51,19 +50,13 @@ unfolding variables_call
 variables-called text table slice h l = kept slice table (variables text table) h l
 
 module _ {text rows words : List ℕ} where
-  pub variables_refused : {r : Stage} {c : Refusal} {p : ℕ} → JudgesText text rows words r → r ≡ Refused c p → (table slice : List ℕ) {written : List ℕ} → written ≡ with_refusal r slice → Leaves (variables text table) slice written table
+  pub variables_refused : {why : Refused} → JudgesText text rows words (Err why) → (table slice : List ℕ) {written : List ℕ} → written ≡ with_refusal why slice → Leaves (variables text table) slice written table
   unfolding variables verdict table_of with_refusal
-  variables_refused {r} {c} {p} g e table slice w = leaves _ (code c) p 0 0 (rw (is_refused (known g e))) (rw e at w)
+  variables_refused {why} g table slice w = leaves _ (code why.refusal) why.place 0 0 (rw (is_refused g)) w
 
-  module _ {n z : ℕ} (g : JudgesText text rows words (Done n z)) where
-    -- A table of at most as many declarations as a text may have, with room for them.
-    pub few_rows : n ≤ declaration_limit
-    few_rows = (accepts g).rows.few
-
-    pub rows_room : (n ≤ declaration_limit) × (n * row_words ≤ length rows)
-    rows_room = (few_rows, omega (arith, few_rows, (accepts g).rows.room))
-
-    pub variables_accepted : (table slice : List ℕ) {after written : List ℕ} {m : ℕ} → ((text : List ℕ) → m ≡ need (entries text rows n)) → after ≡ listed (entries [] rows n) table
-        → written ≡ with_numbers (0 ∷ 0 ∷ m ∷ n ∷ []) slice → Leaves (variables text table) slice written after
+  module _ {reached : Reached} (g : JudgesText text rows words (Ok reached)) where
+    pub variables_accepted : (table slice : List ℕ) {after written : List ℕ} {m : ℕ} → ((text : List ℕ) → m ≡ need (entries text rows reached.count)) → after ≡ listed (entries [] rows reached.count) table
+        → written ≡ with_numbers (0 ∷ 0 ∷ m ∷ reached.count ∷ []) slice → Leaves (variables text table) slice written after
     unfolding variables verdict table_of
-    variables_accepted table slice {m = m} needs e w = leaves _ 0 0 m n (rw (is_accepted g, needs text, length-entries text rows n, e, listed-entries text rows n table)) w
+    variables_accepted table slice {m = m} needs e w =
+        leaves _ 0 0 m reached.count (rw (is_accepted g, needs text, length-entries text rows reached.count, e, listed-entries text rows reached.count table)) w

@@ -5,10 +5,11 @@ use mathlib.Core.List.{List}
 use native.Mathlib.Omega.{arith}
 use lib.ListN.{length, take}
 use lib.Seq.{length-take-le}
+use Rattle.std.specs.declared.result.Result.TheVariants.{Ok}
 use Rattle.meaning.specs.Codes.{nesting_limit}
 use Rattle.meaning.specs.Program.{Program}
 use Rattle.meaning.specs.Memory.{declared, need}
-use Rattle.layout.specs.declared.Stage.TheVariants.{Done}
+use Rattle.layout.specs.declared.Reached.{Reached}
 use Rattle.layout.specs.Table.{entry, entries, Lies}
 use Rattle.layout.specs.Code.{program_words}
 use Rattle.laws.specs.Sound.{stack_limit}
@@ -20,7 +21,7 @@ use Rattle.typing_expressions.proofs.Names.{length-entries, entries_at}
 use Rattle.judge.specs.Contract.{JudgesText}
 use Rattle.plan.specs.Planning.{Plannable, SomePlannable, PlannedAs, Plans}
 use Rattle.ruihmento.specs.Contract.{Planned, SomePlanned}
-use Rattle.ruihmento.proofs.Judging.{is_accepted, accepts}
+use Rattle.ruihmento.proofs.Judging.{is_accepted}
 use Rattle.ruihmento.proofs.Waiting.{all_served}
 
 -- The table has the kind, the length and the address of each declaration.
@@ -46,46 +47,43 @@ nearer h (near_choice {p = p} l f g) = near_choice {p = p} (omega arith) (nearer
 nearer h (near_cycle {p = p} l f) = near_cycle {p = p} (omega arith) (nearer h f)
 nearer h (near_alone f) = near_alone (nearer h f)
 
-module _ {text table words : List ℕ} {n z : ℕ} (g : JudgesText text table words (Done n z)) where
-  pub words_fit : z ≤ length words
-  words_fit = (accepts g).fits
+module _ {text table words : List ℕ} {reached : Reached} (g : JudgesText text table words (Ok reached)) where
+  pub words_fit : reached.size ≤ length words
+  words_fit = g.accepted.fits
 
-  pub words_counted : z ≡ length (take z words)
-  words_counted = sym (length-take-le z words words_fit)
+  pub words_counted : reached.size ≡ length (take reached.size words)
+  words_counted = sym (length-take-le reached.size words words_fit)
 
-  ready : Ready text g.program (entries text table n)
+  ready : Ready text g.program (entries text table reached.count)
   ready = accepted_ready text (is_accepted g)
 
   -- Two words for each of its own are room for its plan, and a stack of the greatest size for its operands.
   module _ {room stack : ℕ} (wide : 2 * length words ≤ room) (deep : stack ≡ 696) where
-    plannable : Plannable (take z words) table nesting_limit room stack (entries text table n) g.program
+    plannable : Plannable (take reached.size words) table nesting_limit room stack (entries text table reached.count) g.program
     unfolding stack_limit
     plannable = record {
-      words = (accepts g).words;
+      words = g.accepted.words;
       runnable = ready.runs;
-      lies = lies text table n (accepts g).rows;
-      short = omega (arith, words_counted, (accepts g).short);
+      lies = lies text table reached.count g.accepted.rows;
+      short = omega (arith, words_counted, g.accepted.short);
       out_room = omega (arith, words_fit, words_counted);
       stack_room = omega arith;
     }
 
-    pub a_plannable : SomePlannable (take z words) table room stack
-    a_plannable = (entries text table n, g.program, plannable)
+    pub a_plannable : SomePlannable (take reached.size words) table room stack
+    a_plannable = (entries text table reached.count, g.program, plannable)
 
-  module _ {after : List ℕ} {stack r : ℕ} (plans : Plans (take z words) table after stack r) (wide : 2 * length words ≤ length after) (deep : stack ≡ 696) where
-    as_planned : PlannedAs (take z words) after r (entries text table n) g.program
-    as_planned = plans (entries text table n) g.program (plannable wide deep)
+  module _ {after : List ℕ} {stack r : ℕ} (plans : Plans (take reached.size words) table after stack r) (wide : 2 * length words ≤ length after) (deep : stack ≡ 696) where
+    as_planned : PlannedAs (take reached.size words) after r (entries text table reached.count) g.program
+    as_planned = plans (entries text table reached.count) g.program (plannable wide deep)
 
     pub plan_fits : r ≤ length after
     plan_fits = omega (arith, words_fit, words_counted, as_planned.few)
 
-    pub plan_counted : r ≡ length (take r after)
-    plan_counted = sym (length-take-le r after plan_fits)
+    typed-words : length (program_words g.program) ≤ reached.size
+    typed-words = omega (arith, words_counted, ap length g.accepted.words)
 
-    typed-words : length (program_words g.program) ≤ z
-    typed-words = omega (arith, words_counted, ap length (accepts g).words)
-
-    pub planned : {m : ℕ} → ((text : List ℕ) → m ≡ need (entries text table n)) → Planned z (take r after) m (entries text table n) g.program
+    pub planned : {m : ℕ} → ((text : List ℕ) → m ≡ need (entries text table reached.count)) → Planned reached.size (take r after) m (entries text table reached.count) g.program
     planned m = record {
       prepared = λ registers room. record {
         needs = m text;
@@ -101,5 +99,5 @@ module _ {text table words : List ℕ} {n z : ℕ} (g : JudgesText text table wo
       };
     }
 
-    pub a_plan : {m : ℕ} → ((text : List ℕ) → m ≡ need (entries text table n)) → SomePlanned z (take r after) m
-    a_plan m = (entries text table n, g.program, planned m)
+    pub a_plan : {m : ℕ} → ((text : List ℕ) → m ≡ need (entries text table reached.count)) → SomePlanned reached.size (take r after) m
+    a_plan m = (entries text table reached.count, g.program, planned m)

@@ -6,6 +6,7 @@ use mathlib.Core.List.{List, [], ◌∷◌}
 use native.Mathlib.Omega.{arith}
 use lib.ListN.{length}
 use borrow.Author.Tests.{le-leb, lt-leb}
+use Rattle.std.specs.declared.result.Result.TheVariants.{Ok, Err}
 use Rattle.meaning.specs.declared.Refusal.TheVariants.{MemoryTooShort, BudgetSpent}
 use Rattle.meaning.specs.Codes.{code, ok, text_limit}
 use Rattle.meaning.specs.Program.{Program}
@@ -16,20 +17,15 @@ use Rattle.laws.specs.Near.{Stops, near_spent}
 use Rattle.laws.proofs.Values.{evaluate-length}
 use Rattle.laws.proofs.Running.{run_stops}
 use Rattle.blocks.specs.Masks.{bits}
-use Rattle.engine.specs.declared.Ended.{Ended}
-use Rattle.engine.specs.declared.Ended.TheVariants.{Done, Spent}
-use Rattle.engine.specs.Ending.{ran, spent, EndedAs}
-use Rattle.engine.specs.Statements.{SomeProgram, Executes}
-use Rattle.ruihmento.specs.Contract.{Leaves, Prepared, SomePrepared}
+use Rattle.engine.specs.declared.Spent.{Spent}
+use Rattle.engine.specs.Ending.{Ended, ran, spent, EndedAs}
+use Rattle.engine.specs.Statements.{Executes}
+use Rattle.ruihmento.specs.Contract.{Leaves, Prepared}
 
 -- "The mask starts as one true lane."
 one_lane : bits 1 1 ≡ true ∷ []
 unfolding bits
 one_lane = refl
-
--- With the memory that it needs, the plan of some program can be run.
-pub a_run : {words : List ℕ} {registers m : ℕ} → SomePrepared words registers m → (bytes : ℕ) → m ≤ bytes → SomeProgram words bytes registers
-a_run p bytes enough = (p.0, p.1, p.2.runs bytes (omega (arith, p.2.needs)))
 
 -- A run that spent its budget stopped near.
 spent_near : {N b p : ℕ} {M : Memory} → Stops (λ M. Unit {0}) N b (spent p M) → p ≤ N
@@ -52,7 +48,7 @@ module _ {words : List ℕ} {registers m : ℕ} {Γ : Declarations} {P : Program
     unfolding executed
     executed_is = rw (le-leb (need Γ) (length M) fits)
 
-    module _ (r : Ended) (after : Memory) (executes : Executes words registers budget M after r) where
+    module _ {r : Ended} {after : Memory} (executes : Executes words registers budget M after r) where
       ended_as : EndedAs r budget after (program_run Γ P (bits 1 1) budget M)
       ended_as = executes Γ P (p.runs (length M) fits)
 
@@ -62,25 +58,21 @@ module _ {words : List ℕ} {registers m : ℕ} {Γ : Declarations} {P : Program
       ended_is : executed program_run M budget (ok P Γ) ≡ ended m budget (ran r after)
       ended_is = executed_is ∙ rw (ran_is, p.needs)
 
+    module _ {due : Spent} {after : Memory} (executes : Executes words registers budget M after (Err due)) where
       -- The place at which it stopped is one of a text.
-      pub spent_low : {place : ℕ} → r ≡ Spent place → place ≤ text_limit
-      spent_low {place} q =
+      pub spent_low : due.place ≤ text_limit
+      spent_low =
           let stops = run_stops (λ M. Unit {0}) text_limit Γ (evaluate Γ) (effect Γ) (λ C σ e m z t. evaluate-length σ m z t) (λ σ e d i. tt)
           (p.runs (length M) fits).fits p.places (true ∷ []) budget M refl tt in
-          spent_near {M = after} (subst (λ (o : Ran Memory). Stops (λ M. Unit {0}) text_limit budget o) (sym ran_is ∙ rw q) stops)
+          spent_near {M = after} (subst (λ (o : Ran Memory). Stops (λ M. Unit {0}) text_limit budget o) (sym (ran_is executes)) stops)
 
       -- Code 13.
-      pub leaves_spent : {place : ℕ} → r ≡ Spent place → (slice : List ℕ) {written : List ℕ} {k : ℕ} → k ≡ code BudgetSpent → written ≡ with_numbers (k ∷ place ∷ m ∷ budget ∷ []) slice
-          → Leaves (executed program_run M budget (ok P Γ)) slice written after
+      pub leaves_spent : (slice : List ℕ) {written : List ℕ} {k : ℕ} → k ≡ code BudgetSpent → written ≡ with_numbers (k ∷ due.place ∷ m ∷ budget ∷ []) slice → Leaves (executed program_run M budget (ok P Γ)) slice written after
       unfolding ended answer numbers
-      leaves_spent q slice k w = let all : budget - 0 ≡ budget = omega arith in rw (ended_is, q, all) (record { written_is = rw (w, k); after_is = refl })
+      leaves_spent slice k w = let all : budget - 0 ≡ budget = omega arith in rw (ended_is executes, all) (record { written_is = rw (w, k); after_is = refl })
 
-      -- No more steps are left than there were.
-      pub some_left : {left : ℕ} → r ≡ Done left → left ≤ budget
-      some_left {left} q = ended_as.no_more left q
-
+    module _ {left : ℕ} {after : Memory} (executes : Executes words registers budget M after (Ok left)) where
       -- Code 0.
-      pub leaves_done : {left : ℕ} → r ≡ Done left → (slice : List ℕ) {written : List ℕ} → written ≡ with_numbers (0 ∷ 0 ∷ m ∷ (budget - left) ∷ []) slice
-          → Leaves (executed program_run M budget (ok P Γ)) slice written after
+      pub leaves_done : (slice : List ℕ) {written : List ℕ} → written ≡ with_numbers (0 ∷ 0 ∷ m ∷ (budget - left) ∷ []) slice → Leaves (executed program_run M budget (ok P Γ)) slice written after
       unfolding ended answer numbers
-      leaves_done q slice w = rw (ended_is, q) (record { written_is = w; after_is = refl })
+      leaves_done slice w = rw (ended_is executes) (record { written_is = w; after_is = refl })

@@ -6,14 +6,10 @@ use native.Mathlib.Omega.{arith}
 use lib.ListN.{length}
 use lib.Seq.{sets, sets-eq}
 use borrow.Author.Tests.{le-leb, lt-leb}
-use Rattle.meaning.specs.declared.Refusal.{Refusal}
-use Rattle.meaning.specs.Codes.{code}
 use Rattle.meaning.specs.Memory.{little_endian}
 use Rattle.meaning.specs.Services.{Answer, answer, in_a_row, numbers, with_numbers, called, Kept}
-use Rattle.layout.specs.declared.Stage.{Stage}
-use Rattle.layout.specs.declared.Stage.TheVariants.{Refused}
 use Rattle.numbers.specs.Sizes.{four_bytes}
-use Rattle.ruihmento.specs.Contract.{with_refusal, Leaves}
+use Rattle.ruihmento.specs.Contract.{Leaves}
 
 length_row : (c p n s : ℕ) → length (in_a_row (c ∷ p ∷ n ∷ s ∷ [])) ≡ four_bytes
 unfolding in_a_row little_endian
@@ -23,11 +19,6 @@ length_row c p n s = refl
 pub row_in_front : (slice : List ℕ) (c p n s : ℕ) → four_bytes ≤ length slice → sets slice 0 (in_a_row (c ∷ p ∷ n ∷ s ∷ [])) ≡ with_numbers (c ∷ p ∷ n ∷ s ∷ []) slice
 unfolding with_numbers
 row_in_front slice c p n s h = sets-eq (in_a_row (c ∷ p ∷ n ∷ s ∷ [])) slice 0 (omega (arith, length_row c p n s)) ∙ rw (length_row c p n s)
-
--- A refusal that was told by its number.
-pub told : (slice : List ℕ) {written : List ℕ} {judged : Stage} {c : Refusal} (p : ℕ) {k : ℕ} → judged ≡ Refused c p → written ≡ with_numbers (k ∷ p ∷ 0 ∷ 0 ∷ []) slice → k ≡ code c → written ≡ with_refusal judged slice
-unfolding with_refusal
-told slice p e w k = rw (e, ← k) w
 
 module _ {A : Type 0} (slice : List ℕ) (lent : A) where
   -- A slice without room stays, and so does what was lent.

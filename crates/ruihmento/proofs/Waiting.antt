@@ -14,6 +14,7 @@ use Rattle.laws.specs.Sound.{code_stack, stack_limit, Able, Runnable, of_nothing
 use Rattle.laws.specs.Values.{Every, every_nothing, every_step, every_put, every_both, every_choice, every_cycle, every_alone}
 use Rattle.instructions.proofs.Leaving.{some_stack}
 use Rattle.ruihmento.specs.Waiting.{waiting}
+use Rattle.ruihmento.specs.Contract.{SomePlanned, SomePrepared}
 
 stack-words : (e : Code) → 2 * unit_words * code_stack e ≤ length (code_words e) + unit_words
 unfolding code_stack code_words
@@ -51,11 +52,15 @@ module _ {n w registers : ℕ} (room : waiting w * chunk_lanes ≤ registers) wh
   all_served (of_alone {s = s} f) h = every_alone (all_served f (omega (arith, simp length-headed at h)))
 
 -- Registers for n values that wait are enough for a program of so few words.
-pub registers_few : (n w : ℕ) {registers : ℕ} → w ≤ 2 * unit_words * n - unit_words → registers ≡ n * chunk_lanes → waiting w * chunk_lanes ≤ registers
+pub registers_few : (n : ℕ) {w : ℕ} → w ≤ 2 * unit_words * n - unit_words → waiting w * chunk_lanes ≤ n * chunk_lanes
 unfolding waiting
-registers_few n w h r = omega arith
+registers_few n h = omega arith
 
 -- As many as may wait in any expression are enough for every program.
-pub registers_all : (w : ℕ) {registers : ℕ} → registers ≡ 232 * chunk_lanes → waiting w * chunk_lanes ≤ registers
+pub registers_all : (w : ℕ) → waiting w * chunk_lanes ≤ 232 * chunk_lanes
 unfolding waiting stack_limit
-registers_all w r = omega arith
+registers_all w = omega arith
+
+-- With registers that are enough the plan of some program can run.
+pub a_run_ready : {w m registers : ℕ} {code : List ℕ} → SomePlanned w code m → waiting w * chunk_lanes ≤ registers → SomePrepared code registers m
+a_run_ready p enough = (p.0, p.1, p.2.prepared _ enough)

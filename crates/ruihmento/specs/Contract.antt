@@ -1,58 +1,48 @@
 -- What the services work in, and what they leave.
 use Rattle.std.specs.Prelude.{ℕ, ◌+◌, ◌*◌, ◌≤◌, min, ◌≡◌, List, [], ◌∷◌, length}
-use Rattle.meaning.specs.declared.Refusal.{Refusal}
 use Rattle.meaning.specs.Codes.{code, ok, text_limit, nesting_limit}
 use Rattle.meaning.specs.Program.{Program}
 use Rattle.meaning.specs.Memory.{Memory, Declarations, need}
 use Rattle.meaning.specs.Services.{Answer, answer, numbers, with_numbers, program_run, executed, run, answer_bytes, each}
-use Rattle.layout.specs.declared.Stage.{Stage}
-use Rattle.layout.specs.declared.Stage.TheVariants.{Done, Refused}
+use Rattle.layout.specs.declared.Refused.{Refused}
 use Rattle.layout.specs.Tokens.{token_words}
-use Rattle.layout.specs.Sizes.{tree_room, tree_limit}
+use Rattle.layout.specs.Stage.{Stage}
+use Rattle.layout.specs.Sizes.{token_room, tree_room, tree_limit}
 use Rattle.layout.specs.Instructions.{chunk_lanes}
 use Rattle.laws.specs.Near.{NearProgram}
 use Rattle.numbers.specs.Sizes.{four_bytes}
-use Rattle.tokens.specs.Lexing.{TokenRoom}
+use Rattle.judge.specs.Contract.{JudgesText}
 use Rattle.instructions.specs.Plan.{Runs}
 use Rattle.ruihmento.specs.declared.Batch.{Batch}
 use Rattle.ruihmento.specs.Waiting.{waiting}
 
--- The bytes of the longest small text, and of the longest short one.
-abbrev pub small_text : ℕ
-small_text = 128
-
-abbrev pub short_text : ℕ
-short_text = 512
-
--- A text that is not too long has room for its tree, and for its tokens and its program.
-pub record TextRoom (text tree code : List ℕ) : Type 0 where
-  pub tokens_room : TokenRoom text code
-  pub tree_fits : tree_room (min (length text) text_limit) ≤ length tree
-  pub few : length tree ≤ tree_limit
-  pub code_room : length tree ≤ length code
-
--- And the answer slice for the four numbers.
-pub record ServiceRoom (text tree code slice : List ℕ) : Type 0 where
-  pub judging : TextRoom text tree code
-  pub answer_room : four_bytes ≤ length slice
+-- Buffers of so many words have room for the tree of a text, as far as a text may go, and for its tokens, which become its program.
+pub record TextRoom (text : List ℕ) (tree code : ℕ) : Type 0 where
+  pub tokens_fit : token_room (min (length text) text_limit) ≤ code
+  pub tree_fits : tree_room (min (length text) text_limit) ≤ tree
+  pub few : tree ≤ tree_limit
+  pub code_room : tree ≤ code
 
 -- A text that is to be run has room for its tokens and its program, and for its plan, of at most two words for each of its program; its
 -- tree, which has no word for the text's end, stands where the plan will.
-pub record RunningRoom (text code planned : List ℕ) : Type 0 where
-  pub tokens_room : TokenRoom text code
-  pub tree_fits : tree_room (min (length text) text_limit) + token_words ≤ length code
-  pub few : length code ≤ tree_limit + token_words
-  pub plan_room : 2 * length code ≤ length planned
+pub record RunningRoom (text : List ℕ) (code planned : ℕ) : Type 0 where
+  pub tokens_fit : token_room (min (length text) text_limit) ≤ code
+  pub tree_fits : tree_room (min (length text) text_limit) + token_words ≤ code
+  pub few : code ≤ tree_limit + token_words
+  pub plan_room : 2 * code ≤ planned
 
--- An answer slice with the numbers of a refusal, if there is one: "Codes 1 to 11: need and steps 0."
-unfoldable pub with_refusal : Stage → List ℕ → List ℕ
-with_refusal (Done n z) slice = slice
-with_refusal (Refused c p) slice = with_numbers (code c ∷ p ∷ 0 ∷ 0 ∷ []) slice
+-- A text was judged as the definition says; of an accepted one, the table is as a run wants it, and so were the words of its program.
+abbrev pub JudgesTable : List ℕ → List ℕ → Stage → Type 0
+JudgesTable text table r = (code : List ℕ) × JudgesText text table code r
+
+-- An answer slice with the numbers of a refusal: "Codes 1 to 11: need and steps 0."
+unfoldable pub with_refusal : Refused → List ℕ → List ℕ
+with_refusal why slice = with_numbers (code why.refusal ∷ why.place ∷ 0 ∷ 0 ∷ []) slice
 
 -- They can be told: the slice has room, and the place is a number of 32 bits.
-pub record Tellable (judged : Stage) (slice : List ℕ) : Type 0 where
+pub record Tellable (why : Refused) (slice : List ℕ) : Type 0 where
   pub room : four_bytes ≤ length slice
-  pub low : (c : Refusal) (p : ℕ) → judged ≡ Refused c p → p ≤ text_limit
+  pub low : why.place ≤ text_limit
 
 -- The answer stands in the answer slice, and what was lent is as the definition leaves it.
 pub record Leaves {A : Type 0} (o : Answer × A) (slice written : List ℕ) (after : A) : Type 0 where
@@ -112,12 +102,12 @@ PerformsPlanned words code m batch lent left =
     (Γ : Declarations) (P : Program) → Planned words code m Γ P → LeavesBatch (λ M budget. executed program_run M budget (ok P Γ)) batch lent left
 
 -- A refusal can be told of so many images.
-pub record Refusable (judged : Stage) (count : ℕ) (answers : List ℕ) : Type 0 where
+pub record Refusable (why : Refused) (count : ℕ) (answers : List ℕ) : Type 0 where
   pub room : count * answer_bytes ≤ length answers
-  pub low : (c : Refusal) (p : ℕ) → judged ≡ Refused c p → p ≤ text_limit
+  pub low : why.place ≤ text_limit
 
 -- One refusal was told of all images, whatever they are and whatever their size: each keeps its bytes.
-abbrev pub RefusesEach : Stage → ℕ → List ℕ → List ℕ → Type 0
-RefusesEach judged count answers answers' =
-    (c : Refusal) (p size : ℕ) (images : List ℕ) → judged ≡ Refused c p → ImagesRoom size count images answers
-    → LeavesEach (λ M. (answer (code c) p 0 0, M)) size count images answers images answers'
+abbrev pub RefusesEach : Refused → ℕ → List ℕ → List ℕ → Type 0
+RefusesEach why count answers answers' =
+    (size : ℕ) (images : List ℕ) → ImagesRoom size count images answers
+    → LeavesEach (λ M. (answer (code why.refusal) why.place 0 0, M)) size count images answers images answers'

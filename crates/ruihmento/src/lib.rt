@@ -1,18 +1,22 @@
 // The services, as a collector calls them. None asks anything of its caller.
+// No bool for a status and no Result for a code: C takes them as numbers. No struct of what a run is lent, images and answers: it would hold
+// `&mut`s, as in `engine`.
 #![tactic(auto)]
 
 ghost use Rattle.std.specs.Prelude.{◌≡◌, [], ◌∷◌, ◌*◌, ◌≤◌, length};
-ghost use Rattle.meaning.specs.Codes.{code};
-ghost use Rattle.meaning.specs.Services as S;
-ghost use Rattle.meaning.specs.Services.{judge_call, variables, variables_call, run_call, answer_bytes, how_many, run_each_call, numbers, with_numbers, Kept};
+ghost use Rattle.meaning.specs.Codes.{code, text_limit};
+ghost use Rattle.meaning.specs.Services.{judge_call, variables_call, run_call, how_many, run_each_call, with_numbers, Kept};
+ghost use Rattle.layout.specs.Sizes.{token_room, table_room};
+ghost use Rattle.layout.specs.Instructions.{chunk_lanes};
+ghost use Rattle.laws.specs.Sound.{stack_limit};
 ghost use Rattle.numbers.specs.Sizes.{four_bytes};
-ghost use Rattle.ruihmento.specs.Contract.{small_text, short_text, ServiceRoom, RunningRoom, Tellable, with_refusal, Leaves, ImagesRoom, RunsEach, Refusable, RefusesEach};
+ghost use Rattle.ruihmento.specs.Contract.{TextRoom, JudgesTable, RunningRoom, Tellable, with_refusal, ImagesRoom, RunsEach, Refusable, RefusesEach};
 ghost use Rattle.ruihmento.specs.Contract.{SomePlanned, PerformsPlanned, SomePrepared, PerformsEach, Performs};
 
-use engine::{Ended, execute};
+use engine::execute;
 use judge::judge;
-use layout::{Stage, UNIT, instruction, size, token};
-use meaning::{Refusal, code_of};
+use layout::{Refused, Stage, UNIT, instruction, size, token};
+use meaning::Refusal;
 use numbers::{FOUR, put_four};
 use plan::plan;
 use typing_expressions::need;
@@ -26,7 +30,7 @@ const SMALL: usize = 128;
 
 const SHORT: usize = 512;
 
-// The words of their trees, and those of their tokens, which become their programs.
+// The words of the trees of a small, of a short and of a long text, and those of its tokens, which become its program.
 const SMALL_TREE: usize = SMALL * UNIT;
 
 const SMALL_CODE: usize = (SMALL + 1) * token::WORDS;
@@ -35,12 +39,16 @@ const SHORT_TREE: usize = SHORT * UNIT;
 
 const SHORT_CODE: usize = (SHORT + 1) * token::WORDS;
 
-// The words of the plans of their programs, and of the longest: at most two for each of a program.
+const LONG_TREE: usize = size::TREE;
+
+const LONG_CODE: usize = size::TOKENS;
+
+// The words of the plans of their programs: at most two for each of a program.
 const SMALL_PLAN: usize = 2 * SMALL_CODE;
 
 const SHORT_PLAN: usize = 2 * SHORT_CODE;
 
-const PLAN: usize = 2 * size::TOKENS;
+const LONG_PLAN: usize = 2 * LONG_CODE;
 
 // How many values wait at most in the expressions of a program of few, and of one of more words: an expression leaves one waiting for
 // each six of its words.
@@ -51,6 +59,13 @@ const MORE: usize = 128;
 const FEW_WORDS: usize = 2 * UNIT * FEW - UNIT;
 
 const MORE_WORDS: usize = 2 * UNIT * MORE - UNIT;
+
+// The words of their registers, and of those of any program: a chunk for each value.
+const FEW_REGISTERS: usize = FEW * instruction::CHUNK;
+
+const MORE_REGISTERS: usize = MORE * instruction::CHUNK;
+
+const ALL_REGISTERS: usize = size::WAITING * instruction::CHUNK;
 
 // Memories that are run one after another: the bytes of each, how many there are, and the steps that each may take.
 #[derive(Clone, Copy)]
@@ -68,14 +83,12 @@ fn tell(answer: &mut [u8], code: u32, place: u32, need: u32, steps: u32)
     put_four(answer, 0, code, place, need, steps);
 }
 
-// Writes the numbers of a refusal, if the text was refused.
-fn tell_refusal(answer: &mut [u8], judged: Stage)
-    requires { Tellable judged answer.old }
-    ensures { answer.new ≡ with_refusal judged answer.old }
+// Writes the numbers of a refusal.
+fn tell_refusal(answer: &mut [u8], why: Refused)
+    requires { Tellable why answer.old }
+    ensures { answer.new ≡ with_refusal why answer.old }
 {
-    if let Stage::Refused { refusal, place } = judged {
-        tell(answer, code_of(refusal), place as u32, 0, 0);
-    }
+    tell(answer, u32::from(why.refusal), why.place as u32, 0, 0);
 }
 
 // The verdict of a text.
@@ -85,35 +98,12 @@ pub fn ruihmento_judge(text: &[u8], answer: &mut [u8]) -> u32
     if answer.len() < ANSWER {
         return 0;
     }
-    if text.len() <= SMALL {
-        let mut tree = [0u32; SMALL_TREE];
-        let mut code = [0u32; SMALL_CODE];
-        judge_in(text, &mut tree, &mut code, answer);
-    } else if text.len() <= SHORT {
-        let mut tree = [0u32; SHORT_TREE];
-        let mut code = [0u32; SHORT_CODE];
-        judge_in(text, &mut tree, &mut code, answer);
-    } else {
-        let mut tree = [0u32; size::TREE];
-        let mut code = [0u32; size::TOKENS];
-        judge_in(text, &mut tree, &mut code, answer);
+    let mut table = [0u32; size::TABLE];
+    match judge_text(text, &mut table) {
+        Ok(judged) => tell(answer, 0, 0, need(&table, judged.count), 0),
+        Err(why) => tell_refusal(answer, why),
     }
     1
-}
-
-// Judges a text in lent buffers.
-fn judge_in(text: &[u8], tree: &mut [u32], code: &mut [u32], answer: &mut [u8])
-    requires { ServiceRoom text.now tree.old code.old answer.old }
-    ensures { answer.new ≡ with_numbers (numbers (S.judge text.now)) answer.old }
-{
-    let mut table = [0u32; size::TABLE];
-    let mut stack = [0u32; size::STACK];
-    let judged = judge(text, tree, &mut table, code, &mut stack);
-    let Stage::Done { count, size: _ } = judged else {
-        tell_refusal(answer, judged);
-        return;
-    };
-    tell(answer, 0, 0, need(&table, count), 0);
 }
 
 // Where the variables of a text lie.
@@ -123,38 +113,43 @@ pub fn ruihmento_variables(text: &[u8], records: &mut [u8], answer: &mut [u8]) -
     if answer.len() < ANSWER {
         return 0;
     }
-    if text.len() <= SMALL {
-        let mut tree = [0u32; SMALL_TREE];
-        let mut code = [0u32; SMALL_CODE];
-        list_in(text, records, &mut tree, &mut code, answer);
-    } else if text.len() <= SHORT {
-        let mut tree = [0u32; SHORT_TREE];
-        let mut code = [0u32; SHORT_CODE];
-        list_in(text, records, &mut tree, &mut code, answer);
-    } else {
-        let mut tree = [0u32; size::TREE];
-        let mut code = [0u32; size::TOKENS];
-        list_in(text, records, &mut tree, &mut code, answer);
+    let mut table = [0u32; size::TABLE];
+    match judge_text(text, &mut table) {
+        Ok(judged) => {
+            let count = judged.count;
+            list(&table, count, records);
+            tell(answer, 0, 0, need(&table, count), count as u32);
+        }
+        Err(why) => tell_refusal(answer, why),
     }
     1
 }
 
-// Lists the variables of a text, which is judged in lent buffers.
-fn list_in(text: &[u8], records: &mut [u8], tree: &mut [u32], code: &mut [u32], answer: &mut [u8])
-    requires { ServiceRoom text.now tree.old code.old answer.old }
-    ensures { Leaves (variables text.now records.old) answer.old answer.new records.new }
+// Judges a text in buffers of its size, which end with the call: its declarations go into the table.
+fn judge_text(text: &[u8], table: &mut [u32]) -> Stage
+    requires { table_room ≤ length table.old }
+    ensures { JudgesTable text.now table.new result }
 {
-    let mut table = [0u32; size::TABLE];
+    if text.len() <= SMALL {
+        judge_with::<SMALL_TREE, SMALL_CODE>(text, table)
+    } else if text.len() <= SHORT {
+        judge_with::<SHORT_TREE, SHORT_CODE>(text, table)
+    } else {
+        judge_with::<LONG_TREE, LONG_CODE>(text, table)
+    }
+}
+
+// Judges a text in buffers of so many words: a function for each size, so that a call has the stack of one of them.
+fn judge_with<const TREE: usize, const CODE: usize>(text: &[u8], table: &mut [u32]) -> Stage
+    requires room { TextRoom text.now TREE CODE }
+    requires few { CODE ≤ token_room text_limit }
+    requires rows_room { table_room ≤ length table.old }
+    ensures { JudgesTable text.now table.new result }
+{
+    let mut tree = [0u32; TREE];
+    let mut code = [0u32; CODE];
     let mut stack = [0u32; size::STACK];
-    let judged = judge(text, tree, &mut table, code, &mut stack);
-    let Stage::Done { count, size: _ } = judged else {
-        tell_refusal(answer, judged);
-        return;
-    };
-    list(&table, count, records);
-    let bytes = need(&table, count);
-    let rows = count as u32;
-    tell(answer, 0, 0, bytes, rows);
+    judge(text, &mut tree, table, &mut code, &mut stack)
 }
 
 // Runs a text over a lent memory.
@@ -164,17 +159,12 @@ pub fn ruihmento_run(text: &[u8], memory: &mut [u8], budget: u32, answer: &mut [
     if answer.len() < ANSWER {
         return 0;
     }
-    let size = memory.len();
-    run_images(
-        text,
-        memory,
-        Batch {
-            size,
-            count: 1,
-            budget,
-        },
-        answer,
-    );
+    let batch = Batch {
+        size: memory.len(),
+        count: 1,
+        budget,
+    };
+    run_images(text, memory, batch, answer);
     1
 }
 
@@ -192,16 +182,12 @@ pub fn ruihmento_run_each(
     if count == 0 {
         return 0;
     }
-    run_images(
-        text,
-        images,
-        Batch {
-            size,
-            count,
-            budget,
-        },
-        answers,
-    );
+    let batch = Batch {
+        size,
+        count,
+        budget,
+    };
+    run_images(text, images, batch, answers);
     count
 }
 
@@ -212,102 +198,79 @@ fn how_many(images: &[u8], size: usize, answers: &[u8]) -> usize
     if size == 0 {
         return 0;
     }
-    let fit = images.len() / size;
-    let told = answers.len() / ANSWER;
-    if fit < told {
-        return fit;
-    }
-    told
+    (images.len() / size).min(answers.len() / ANSWER)
 }
 
-// Runs a text over each image, with buffers of its size: a function for each, so that a call has the stack of one of them.
+// Runs a text over each image, with buffers of its size.
 fn run_images(text: &[u8], images: &mut [u8], batch: Batch, answers: &mut [u8])
     requires { ImagesRoom batch.size batch.count images.old answers.old }
     ensures { RunsEach text.now batch (images.old, answers.old) (images.new, answers.new) }
 {
     if text.len() <= SMALL {
-        run_small(text, images, batch, answers);
+        run_with::<SMALL_CODE, SMALL_PLAN>(text, images, batch, answers);
     } else if text.len() <= SHORT {
-        run_short(text, images, batch, answers);
+        run_with::<SHORT_CODE, SHORT_PLAN>(text, images, batch, answers);
     } else {
-        run_long(text, images, batch, answers);
+        run_with::<LONG_CODE, LONG_PLAN>(text, images, batch, answers);
     }
 }
 
-// Runs a small text over each image.
-fn run_small(text: &[u8], images: &mut [u8], batch: Batch, answers: &mut [u8])
-    requires { (length text.now ≤ small_text) × ImagesRoom batch.size batch.count images.old answers.old }
-    ensures { RunsEach text.now batch (images.old, answers.old) (images.new, answers.new) }
-{
-    let mut code = [0u32; SMALL_CODE];
-    let mut out = [0u32; SMALL_PLAN];
-    run_in(text, images, batch, &mut code, &mut out, answers);
-}
-
-// Runs a short text over each image.
-fn run_short(text: &[u8], images: &mut [u8], batch: Batch, answers: &mut [u8])
-    requires { (length text.now ≤ short_text) × ImagesRoom batch.size batch.count images.old answers.old }
-    ensures { RunsEach text.now batch (images.old, answers.old) (images.new, answers.new) }
-{
-    let mut code = [0u32; SHORT_CODE];
-    let mut out = [0u32; SHORT_PLAN];
-    run_in(text, images, batch, &mut code, &mut out, answers);
-}
-
-// Runs any text over each image.
-fn run_long(text: &[u8], images: &mut [u8], batch: Batch, answers: &mut [u8])
-    requires { ImagesRoom batch.size batch.count images.old answers.old }
-    ensures { RunsEach text.now batch (images.old, answers.old) (images.new, answers.new) }
-{
-    let mut code = [0u32; size::TOKENS];
-    let mut out = [0u32; PLAN];
-    run_in(text, images, batch, &mut code, &mut out, answers);
-}
-
-// Runs a text, which is judged and planned once in lent buffers, over each image. Its tree stands where its plan will.
-fn run_in(
+// Runs a text over each image, with buffers of so many words: a function for each size, so that a call has the stack of one of them. The
+// text is judged and planned once; its tree stands where its plan will.
+fn run_with<const CODE: usize, const PLAN: usize>(
     text: &[u8],
     images: &mut [u8],
     batch: Batch,
-    code: &mut [u32],
-    planned: &mut [u32],
     answers: &mut [u8],
 )
-    requires { RunningRoom text.now code.old planned.old × ImagesRoom batch.size batch.count images.old answers.old }
+    requires room { RunningRoom text.now CODE PLAN }
+    requires few { PLAN ≤ 2 * token_room text_limit }
+    requires images_room { ImagesRoom batch.size batch.count images.old answers.old }
     ensures { RunsEach text.now batch (images.old, answers.old) (images.new, answers.new) }
 {
+    let mut code = [0u32; CODE];
+    let mut planned = [0u32; PLAN];
     let mut table = [0u32; size::TABLE];
     let mut stack = [0u32; size::STACK];
-    let room = code.len() - token::WORDS;
-    let judged = judge(text, &mut planned[..room], &mut table, code, &mut stack);
-    let Stage::Done { count, size } = judged else {
-        refuse_each(answers, batch.count, judged);
-        return;
-    };
-    let words = plan(&code[..size], &table, planned, &mut stack);
-    let bytes = need(&table, count);
-    run_planned(size, &planned[..words], bytes, images, batch, answers);
+    let room = CODE - token::WORDS;
+    match judge(
+        text,
+        &mut planned[..room],
+        &mut table,
+        &mut code,
+        &mut stack,
+    ) {
+        Ok(judged) => {
+            let words = plan(&code[..judged.size], &table, &mut planned, &mut stack);
+            let bytes = need(&table, judged.count);
+            run_planned(
+                judged.size,
+                &planned[..words],
+                bytes,
+                images,
+                batch,
+                answers,
+            );
+        }
+        Err(why) => refuse_each(answers, batch.count, why),
+    }
 }
 
-// Tells the refusal of a text, if it was refused, of each of so many images.
-fn refuse_each(answers: &mut [u8], count: usize, judged: Stage)
-    requires { Refusable judged count answers.old }
-    ensures { RefusesEach judged count answers.old answers.new }
+// Tells the refusal of a text of each of so many images.
+// No `chunks_exact_mut`: once an iterator has lent the parts of a slice, a proof knows how long the slice is and none of its bytes.
+fn refuse_each(answers: &mut [u8], count: usize, why: Refused)
+    requires { Refusable why count answers.old }
+    ensures { RefusesEach why count answers.old answers.new }
 {
-    let Stage::Refused { refusal, place } = judged else {
-        return;
-    };
-    let code = code_of(refusal);
-    let mut told = 0;
-    while told < count {
+    for told in 0..count {
         let from = told * ANSWER;
         let to = from + ANSWER;
-        tell(&mut answers[from..to], code, place as u32, 0, 0);
-        told += 1;
+        tell_refusal(&mut answers[from..to], why);
     }
 }
 
 // Runs the plan of an accepted program of so many words over each image, with as many registers as its words ask for.
+#[tactic(auto, unfolding(laws::specs::Sound::stack_limit))]
 fn run_planned(
     words: usize,
     code: &[u32],
@@ -320,34 +283,33 @@ fn run_planned(
     ensures { PerformsPlanned words code.now need batch (images.old, answers.old) (images.new, answers.new) }
 {
     if words <= FEW_WORDS {
-        let mut registers = [0u32; FEW * instruction::CHUNK];
-        perform_each(code, need, images, batch, &mut registers, answers);
+        perform_each::<FEW_REGISTERS>(code, need, images, batch, answers);
     } else if words <= MORE_WORDS {
-        let mut registers = [0u32; MORE * instruction::CHUNK];
-        perform_each(code, need, images, batch, &mut registers, answers);
+        perform_each::<MORE_REGISTERS>(code, need, images, batch, answers);
     } else {
-        let mut registers = [0u32; size::WAITING * instruction::CHUNK];
-        perform_each(code, need, images, batch, &mut registers, answers);
+        perform_each::<ALL_REGISTERS>(code, need, images, batch, answers);
     }
 }
 
-// Runs a plan over each image, and writes their answers.
-fn perform_each(
+// Runs a plan over each image, with so many words of registers, and writes their answers.
+// No `chunks_exact_mut`: as in `refuse_each`; and a memory that is lent to a run may have no bytes.
+#[tactic(auto, unfolding(laws::specs::Sound::stack_limit))]
+fn perform_each<const REGISTERS: usize>(
     code: &[u32],
     need: u32,
     images: &mut [u8],
     batch: Batch,
-    registers: &mut [u32],
     answers: &mut [u8],
 )
-    requires { ImagesRoom batch.size batch.count images.old answers.old × SomePrepared code.now (length registers.old) need }
-    ensures { PerformsEach code.now (length registers.old) need batch (images.old, answers.old) (images.new, answers.new) }
+    requires room { ImagesRoom batch.size batch.count images.old answers.old }
+    requires few { REGISTERS ≤ stack_limit * chunk_lanes }
+    requires prepared { SomePrepared code.now REGISTERS need }
+    ensures { PerformsEach code.now REGISTERS need batch (images.old, answers.old) (images.new, answers.new) }
 {
+    let mut registers = [0u32; REGISTERS];
     let size = batch.size;
-    let count = batch.count;
     let budget = batch.budget;
-    let mut k = 0;
-    while k < count {
+    for k in 0..batch.count {
         let at = k * size;
         let end = at + size;
         let from = k * ANSWER;
@@ -357,10 +319,9 @@ fn perform_each(
             need,
             &mut images[at..end],
             budget,
-            registers,
+            &mut registers,
             &mut answers[from..to],
         );
-        k += 1;
     }
 }
 
@@ -377,17 +338,14 @@ fn perform(
     ensures { Performs code.now (length registers.old) need budget (memory.old, answer.old) (memory.new, answer.new) }
 {
     if memory.len() < need as usize {
-        tell(answer, code_of(Refusal::MemoryTooShort), 0, need, 0);
+        tell(answer, u32::from(Refusal::MemoryTooShort), 0, need, 0);
         return;
     }
     match execute(code, memory, budget, registers) {
-        Ended::Spent { place } => {
-            let at = place as u32;
-            tell(answer, code_of(Refusal::BudgetSpent), at, need, budget);
-        }
-        Ended::Done { left } => {
-            let steps = budget - left as u32;
-            tell(answer, 0, 0, need, steps);
+        Ok(left) => tell(answer, 0, 0, need, budget - left as u32),
+        Err(due) => {
+            let place = due.place as u32;
+            tell(answer, u32::from(Refusal::BudgetSpent), place, need, budget);
         }
     }
 }

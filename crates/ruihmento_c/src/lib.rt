@@ -1,5 +1,6 @@
 // The services as C calls them, in the archive that collectors link. Each is the library's, of which it promises the same; `docs/CONTRACTS.md`
 // says what that is.
+// No one function for the two: a crate is a library or a static library, and C's names are exported by the one that is linked.
 #![tactic(auto)]
 
 ghost use Rattle.meaning.specs.Services.{judge_call, variables_call, run_call, run_each_call, Kept};

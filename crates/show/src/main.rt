@@ -5,9 +5,8 @@
 // output, so that these are the files' bytes, and that they arrive, is the word of the system.
 #![tactic(auto)]
 
-ghost use Rattle.std.specs.Prelude.{◌≤◌, length};
+ghost use Rattle.std.specs.Prelude.{◌≤◌, length, IfOk};
 ghost use Rattle.show.specs.Page.{memory_limit, page_limit, Shows};
-ghost use Rattle.show.specs.Reading.{count_of};
 
 use layout::limit;
 use numbers::FOUR;
@@ -31,11 +30,11 @@ const ROW: usize = 16;
 // byte that ends it.
 const PAGE: usize = 4 * (10 + 1) + MEMORY / ROW * (2 * ROW + 1);
 
-// What reading a file gives: so many bytes at the start of the buffer, or nothing, where it failed.
-#[derive(Clone, Copy)]
-enum Got {
-    Bytes(usize),
-    Nothing,
+// What could not be done, and why.
+#[derive(Drop)]
+struct Trouble {
+    what: &'static str,
+    why: io::Error,
 }
 
 // Fills the page with what is shown of a run, and answers how many bytes that is.
@@ -48,70 +47,61 @@ fn fill_page(text: &[u8], memory: &mut [u8], page: &mut [u8]) -> usize
     print::put_shown(page, &answer, memory)
 }
 
-// Says on standard error what could not be done, and why.
-fn tell(rt: &impl Eprint, trouble: &str, why: &io::Error) {
-    // Where that fails too, there is nobody left to tell.
-    let _ = eprintln!(rt; "show: cannot {trouble}: {why}");
-}
-
-// Reads once; where that fails, says why on standard error, after `trouble`.
-fn read_once<F: Read>(rt: &impl Eprint, file: &mut F, trouble: &str, buffer: &mut [u8]) -> Got
-    ensures { count_of result ≤ length buffer.new }
-{
-    match file.read(buffer) {
-        Ok(count) => Got::Bytes(count),
-        Err(why) => {
-            tell(rt, trouble, &why);
-            Got::Nothing
-        }
-    }
-}
-
-// Reads until the buffer is full or the file ends; where that fails, says why on standard error, after `trouble`.
-fn read_open<F: Read>(rt: &impl Eprint, file: &mut F, trouble: &str, buffer: &mut [u8]) -> Got
-    ensures { count_of result ≤ length buffer.new }
+// Reads until the buffer is full or the file ends; how many bytes that is.
+fn read_open<F: Read>(file: &mut F, buffer: &mut [u8]) -> io::Result<usize>
+    ensures { IfOk result (λ count. count ≤ length buffer.new) }
 {
     let mut count = 0;
+    // No `for`: each read says how many bytes it read.
     while count < buffer.len() {
-        let Got::Bytes(more) = read_once(rt, file, trouble, &mut buffer[count..]) else {
-            return Got::Nothing;
-        };
+        let more = file.read(&mut buffer[count..])?;
         if more == 0 {
-            return Got::Bytes(count);
+            return Ok(count);
         }
         count += more;
     }
-    Got::Bytes(count)
+    Ok(count)
 }
 
-// Reads the start of a file, as much as the buffer holds; where that fails, says why on standard error, after `trouble`.
-fn read_start(rt: &(impl Files + Eprint), path: &str, trouble: &str, buffer: &mut [u8]) -> Got
-    ensures { count_of result ≤ length buffer.new }
+// Reads the start of a file, as much as the buffer holds; how many bytes that is.
+fn read_start(rt: &impl Files, path: &str, buffer: &mut [u8]) -> io::Result<usize>
+    ensures { IfOk result (λ count. count ≤ length buffer.new) }
 {
-    match fs::open(rt, path) {
-        Ok(mut file) => read_open(rt, &mut file, trouble, buffer),
-        Err(why) => {
-            tell(rt, trouble, &why);
-            Got::Nothing
-        }
-    }
+    let mut file = fs::open(rt, path)?;
+    read_open(&mut file, buffer)
 }
 
-// Reads the two files, and writes the page of their run to standard output; where that fails, ends with status 1.
-fn main(rt: HostRuntime) -> ExitCode {
+// Reads the two files, and writes the page of their run to standard output.
+fn show_files(rt: &(impl Files + Print)) -> Result<(), Trouble> {
+    // No Vec: with buffers of its own the program ends alike on every input, also where memory is short.
     let mut text = [0u8; TEXT];
     let mut memory = [0u8; MEMORY];
     let mut page = [0u8; PAGE];
-    let Got::Bytes(length) = read_start(&rt, "routine.txt", "read routine.txt", &mut text) else {
-        return ExitCode::FAILURE;
-    };
-    let Got::Bytes(size) = read_start(&rt, "memory.bin", "read memory.bin", &mut memory) else {
-        return ExitCode::FAILURE;
-    };
+    let length = read_start(rt, "routine.txt", &mut text).map_err(|why| Trouble {
+        what: "read routine.txt",
+        why,
+    })?;
+    let size = read_start(rt, "memory.bin", &mut memory).map_err(|why| Trouble {
+        what: "read memory.bin",
+        why,
+    })?;
     let count = fill_page(&text[..length], &mut memory[..size], &mut page);
-    if let Err(why) = io::writer(&rt).write_all(&page[..count]) {
-        tell(&rt, "write to standard output", &why);
-        return ExitCode::FAILURE;
+    io::writer(rt)
+        .write_all(&page[..count])
+        .map_err(|why| Trouble {
+            what: "write to standard output",
+            why,
+        })
+}
+
+// Where something could not be done, says what and why on standard error, and ends with status 1.
+fn main(rt: HostRuntime) -> ExitCode {
+    match show_files(&rt) {
+        Ok(()) => ExitCode::SUCCESS,
+        Err(Trouble { what, why }) => {
+            // Where that fails too, there is nobody left to tell.
+            let _ = eprintln!(rt; "show: cannot {what}: {why}");
+            ExitCode::FAILURE
+        }
     }
-    ExitCode::SUCCESS
 }

@@ -1,5 +1,5 @@
 -- Records one after another: what stands in a table after the first of them. Assumes nothing.
-use Prim.Native.Nat.{ℕ, zero, suc, ◌+◌, ◌*◌, ◌≤◌, ◌<◌}
+use Prim.Native.Nat.{ℕ, zero, suc, ◌+◌, ◌*◌, ◌/◌, min, ◌≤◌, ◌<◌}
 use mathlib.Core.Path.{◌≡◌, refl, sym, ◌∙◌}
 use mathlib.Core.List.{List, [], ◌∷◌, ◌++◌, append_assoc, append-nil}
 use native.Mathlib.Omega.{arith}
@@ -112,12 +112,17 @@ module _ (table l₀ l : List ℕ) (i : ℕ) (so_far : Listing table l₀ i l) w
       listed-append (entries [] table i) Δ l₀ (omega (arith, so_far.fits)) ∙ rw n
 
   -- The end, where all are written or no more fit.
-  pub all_listed : l ≡ listed (entries [] table i) l₀
+  all_listed : l ≡ listed (entries [] table i) l₀
   unfolding listed
   all_listed = so_far.is ∙ sym (behind []) ∙ rw append-nil
 
-  pub full_listed : (n : ℕ) → i ≤ n → length l < i * 16 + 16 → l ≡ listed (entries [] table n) l₀
+  full_listed : (n : ℕ) → i ≤ n → length l < i * 16 + 16 → l ≡ listed (entries [] table n) l₀
   full_listed n h full =
       let s = split table i n h in
       let short : length (drop (i * 16) l₀) < 16 = simp length-drop (omega (arith, full, listing_length)) in
       so_far.is ∙ sym (rw s.is (behind s.rest ∙ rw (listed_short s.rest (drop (i * 16) l₀) short)))
+
+  pub listed_as_fit : (n : ℕ) → i ≡ min n (length l₀ / 16) → l ≡ listed (entries [] table n) l₀
+  listed_as_fit n e =
+      ⊎_elim (λ (all : i ≡ n). rw all at all_listed) (λ (more : i < n). full_listed n (omega arith) (omega (arith, e, more, listing_length)))
+      (eq-or-lt_of_le (omega arith))

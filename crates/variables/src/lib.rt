@@ -6,7 +6,7 @@ ghost use Rattle.meaning.specs.Codes.{declaration_limit};
 ghost use Rattle.meaning.specs.Services.{listed};
 ghost use Rattle.layout.specs.Table.{row_words, entries};
 
-use layout::{kind_number, row};
+use layout::row;
 use numbers::{FOUR, put_four};
 
 // Writes the place, kind, length and address of each declaration that a table holds; every other byte stays. Names are not written,
@@ -15,17 +15,11 @@ pub fn list(table: &[u32], count: usize, records: &mut [u8])
     requires { (count ≤ declaration_limit) × (count * row_words ≤ length table.now) }
     ensures { records.new ≡ listed (entries [] table.now count) records.old }
 {
-    let mut i = 0;
-    while i < count {
-        let at = i * FOUR;
-        if records.len() < at + FOUR {
-            return;
-        }
+    for i in 0..count.min(records.len() / FOUR) {
         let place = row::place(table, i) as u32;
-        let kind = kind_number(row::kind(table, i));
+        let kind = u32::from(row::kind(table, i));
         let lanes = row::lanes(table, i);
         let address = row::address(table, i);
-        put_four(records, at, place, kind, lanes, address);
-        i += 1;
+        put_four(records, i * FOUR, place, kind, lanes, address);
     }
 }

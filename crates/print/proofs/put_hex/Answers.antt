@@ -5,15 +5,15 @@ use Rattle.print.proofs.Printing.{printed_none, printed_both, printed_length}
 use Rattle.print.proofs.Rows.{hex_more, hex_room}
 use Rattle.print.proofs.put_hex.Goals as goal
 
-pub loop-i-init : goal.loop-i-init
+pub loop-byte-init : goal.loop-byte-init
 unfolding hex
-loop-i-init c = (printed_none _ _, omega arith)
+loop-byte-init c = printed_none _ _
 
 pub put-middle-requires : goal.put-middle-requires
-put-middle-requires c = omega (arith, hex_room _ c.loop-i.invariant.0 c.requires c.loop-i-test.true)
+put-middle-requires c = omega (arith, hex_room _ c.loop-byte.invariant c.requires c.loop-byte-test.true)
 
 pub put-next-requires : goal.put-next-requires
-put-next-requires c = omega (arith, hex_room _ c.loop-i.invariant.0 c.requires c.loop-i-test.true, c.put-middle.ensures.next_is, printed_length c.put-middle.ensures)
+put-next-requires c = omega (arith, hex_room _ c.loop-byte.invariant c.requires c.loop-byte-test.true, c.put-middle.ensures.next_is, printed_length c.put-middle.ensures)
 
-pub loop-i-preserved : goal.loop-i-preserved
-loop-i-preserved c = (rw (add-one, hex_more _ _ c.loop-i-test.true, ← c.digit_of-high.ensures, ← c.digit_of-low.ensures) (printed_both (printed_both c.loop-i.invariant.0 c.put-middle.ensures) c.put-next.ensures), omega (arith, c.loop-i-test.true))
+pub loop-byte-preserved : goal.loop-byte-preserved
+loop-byte-preserved c = rw (add-one, hex_more _ _ c.loop-byte-test.true, ← c.digit_of-high.ensures, ← c.digit_of-low.ensures) (printed_both (printed_both c.loop-byte.invariant c.put-middle.ensures) c.put-next.ensures)
