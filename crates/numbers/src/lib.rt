@@ -9,15 +9,17 @@ ghost use Rattle.numbers.specs.Sizes.{number_bytes, four_bytes};
 
 use meaning::WORD;
 
-// The bytes of four numbers in a row.
-pub const FOUR: usize = 4 * WORD;
+// The bytes of a number, and of four in a row.
+pub const NUMBER: usize = WORD;
+
+pub const FOUR: usize = 4 * NUMBER;
 
 // Writes the bytes of a number.
 pub fn put_number(bytes: &mut [u8], at: usize, number: u32)
     requires { at + number_bytes ≤ length bytes.old }
     ensures { bytes.new ≡ sets bytes.old at (little_endian number_bytes number) }
 {
-    bytes[at..at + WORD].copy_from_slice(&number.to_le_bytes());
+    bytes[at..at + NUMBER].copy_from_slice(&number.to_le_bytes());
 }
 
 // The number that stands at a place.
@@ -34,7 +36,7 @@ pub fn put_four(bytes: &mut [u8], at: usize, a: u32, b: u32, c: u32, d: u32)
     ensures { bytes.new ≡ sets bytes.old at (in_a_row (a ∷ b ∷ c ∷ d ∷ [])) }
 {
     put_number(bytes, at, a);
-    put_number(bytes, at + WORD, b);
-    put_number(bytes, at + 2 * WORD, c);
-    put_number(bytes, at + 3 * WORD, d);
+    put_number(bytes, at + NUMBER, b);
+    put_number(bytes, at + 2 * NUMBER, c);
+    put_number(bytes, at + 3 * NUMBER, d);
 }

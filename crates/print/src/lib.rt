@@ -7,15 +7,14 @@ ghost use Rattle.numbers.specs.Sizes.{four_bytes};
 ghost use Rattle.print.specs.Shown.{held, digit, decimal, line, hex, rows, row_count, shown};
 ghost use Rattle.print.specs.Printed.{Printed};
 
-use meaning::WORD;
-use numbers::number_at;
+use numbers::{NUMBER, number_at};
 
 // Where the second, third and fourth number of an answer slice begin.
-const PLACE: usize = WORD;
+const PLACE: usize = NUMBER;
 
-const NEED: usize = 2 * WORD;
+const NEED: usize = 2 * NUMBER;
 
-const STEPS: usize = 3 * WORD;
+const STEPS: usize = 3 * NUMBER;
 
 // The bytes of a row.
 const ROW: usize = 16;

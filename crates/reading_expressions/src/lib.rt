@@ -1,5 +1,5 @@
 // Reads expressions: tokens in a lent buffer to words in a lent tree.
-// No struct of the tokens and the tree, which go through every function: of one that holds a `&mut`, each would have to say besides that it
+// No struct of the tokens and the tree, which most functions are lent: of one that holds a `&mut`, each would have to say besides that it
 // still holds the same words, and as many (docs/DESIGN-PASS.md).
 #![tactic(auto)]
 
@@ -82,6 +82,7 @@ fn put_operator(tag: u32, tokens: &[u32], at: usize, tree: &mut [u32], size: usi
 }
 
 // The level of a binary operator of this kind, loosest first.
+// No list that is searched: the `match` is the table itself.
 #[tactic(auto, using(crate::proofs::Laws::level_by, std::proofs::lemmas::Grind::common_steps))]
 fn level_of(kind: u32) -> u32
     ensures { Level kind result }
