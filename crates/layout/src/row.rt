@@ -64,7 +64,8 @@ pub fn address(table: &[u32], i: usize) -> u32
     table[i * WORDS + ADDRESS]
 }
 
-// 1 while it is open. No bool: it is a word of a lent row, which `shut` and `put` write, and the clause gives the word.
+// 1 while it is open.
+// No bool: it is a word of a lent row, which `shut` and `put` write, and the clause gives the word.
 pub fn open(table: &[u32], i: usize) -> u32
     requires { i * row_words + row_words ≤ length table.now }
     ensures { result ≡ word_of table.now i open_column }

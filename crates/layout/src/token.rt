@@ -11,7 +11,7 @@ pub const PLACE: usize = 1;
 pub const VALUE: usize = 2;
 
 // What a token is.
-// No enum: a token stands as words in a lent buffer, in which its program's come later, and meaning's Tokens numbers what it is.
+// No enum: a token stands as words in a lent buffer, in which those of the program come later, and meaning's Tokens numbers what it is.
 pub const END: u32 = 0;
 
 pub const NUMBER: u32 = 1;
