@@ -57,7 +57,7 @@ fn joins(operator: Binary, x: [u32; 16], y: [u32; 16]) -> [u32; 16]
 fn words(operator: Binary, x: [u32; 16], y: [u32; 16]) -> [u32; 16]
     ensures { result ≡ zip_with (word_binary operator) x y }
 {
-    // No `|` between the first seven arms: comparisons that share one are compiled to more moves and jumps, and a loop for each does without.
+    // No `|` between the first seven arms: comparisons that share an arm are compiled to more moves and jumps.
     match operator {
         Binary::Add => sums(operator, x, y),
         Binary::Sub => sums(operator, x, y),

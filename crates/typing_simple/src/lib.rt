@@ -17,7 +17,7 @@ use meaning::{Kind, Refusal};
 use typing_expressions::{Point, declare, expression, named};
 
 // What an `=` writes to: the place of the `=`, a kind, and a length, or 0 for any.
-// No Option: the length is a word of a lent buffer: of the tree, which is 0 where no length is declared, or of the stack.
+// No Option: the length is a word of the tree, which is 0 where none is declared, or a word of the stack.
 #[derive(Clone, Copy)]
 struct Target {
     place: usize,
