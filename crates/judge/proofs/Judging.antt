@@ -46,14 +46,14 @@ judged_is : (text : List ℕ) → judged text ≡ pass (lexed text) rest
 unfolding judged rest
 judged_is text = refl
 
--- A text that is refused at a place: `?` hands that up.
-judges_refusal : {text : List ℕ} (table code : List ℕ) {r : Stage} {why : Refused} → IsErrAnd r (λ x. x ≡ why) → judged text ≡ refused why.refusal why.place → JudgesText text table code r
+-- A text that is refused at a place.
+judges_refusal : {text : List ℕ} (table code : List ℕ) {r : Stage} {why : Refused} → r ≡ Err why → judged text ≡ refused why.refusal why.place → JudgesText text table code r
 unfolding program_out
-judges_refusal table code {r} up e = rw (handed_up r up) (record { program = nothing; is = e; accepted = tt })
+judges_refusal table code is e = rw is (record { program = nothing; is = e; accepted = tt })
 
 -- What the lexer refuses is refused.
 pub not_lexed : {text buffer : List ℕ} (table code : List ℕ) {r : Stage} {why : Refused} → Lexes text (Err why) buffer → IsErrAnd r (λ x. x ≡ why) → JudgesText text table code r
-not_lexed {text} table code l up = judges_refusal table code up (judged_is text ∙ pass_refused (lexed text) rest l.is)
+not_lexed {text} table code l up = judges_refusal table code (handed_up _ up) (judged_is text ∙ pass_refused (lexed text) rest l.is)
 
 -- What is left to do after the tokens are known.
 after-tokens : {text buffer : List ℕ} {lexes : Reached} (l : Lexes text (Ok lexes) buffer) → judged text ≡ pass (read l.tokens) typed_program
@@ -66,8 +66,8 @@ module _ {text buffer : List ℕ} {lexes : Reached} (l : Lexes text (Ok lexes) b
   told t = t.told l.tokens (holds_only l)
 
   -- What the reader refuses is refused.
-  pub not_read : (table code : List ℕ) {r : Stage} {why : Refused} → ReadsText (take lexes.size buffer) tree (Err why) → IsErrAnd r (λ x. x ≡ why) → JudgesText text table code r
-  not_read table code t up = judges_refusal table code up (after-tokens l ∙ pass_refused (read l.tokens) typed_program (told t).is)
+  pub not_read : (table code : List ℕ) {r : Stage} {why : Refused} → ReadsText (take lexes.size buffer) tree (Err why) → r ≡ Err why → JudgesText text table code r
+  not_read table code t is = judges_refusal table code is (after-tokens l ∙ pass_refused (read l.tokens) typed_program (told t).is)
 
   module _ {parsed : Reached} (t : ReadsText (take lexes.size buffer) tree (Ok parsed)) where
     -- The tree that was read is one that typing can go through.

@@ -21,6 +21,10 @@ pub fn judge(
     ensures { JudgesText text.now table.new code.new result }
 {
     let lexed = lex(text, code)?;
-    let parsed = read(&code[..lexed.size], tree)?;
+    let tree_read = read(&code[..lexed.size], tree);
+    let Ok(parsed) = tree_read else {
+        // No `?`: must-fail/unread-accepted returns another answer here.
+        return tree_read;
+    };
     program(text, &tree[..parsed.size], table, code, stack)
 }

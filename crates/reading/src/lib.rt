@@ -192,8 +192,12 @@ fn otherwise(tokens: &[u32], at: usize, room: u32, tree: &mut [u32], size: usize
     requires { ReadyToRead tokens.now at tree.old size }
     ensures { ReadsOtherwise room tokens.now at tree.old size tree.new result }
 {
-    let word = expect(token::ELSE, tokens, at, size)?;
-    opening(tokens, word.count, room, tree, size)
+    let word = expect(token::ELSE, tokens, at, size);
+    let Ok(next) = word else {
+        // No `?`: must-fail/else-optional returns another answer here.
+        return word;
+    };
+    opening(tokens, next.count, room, tree, size)
 }
 
 // Reads an `if`.

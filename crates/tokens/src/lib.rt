@@ -127,7 +127,10 @@ fn constant(s: &[u8], behind: &[u8]) -> Option<Lexeme>
     if !((more == 1) & (byte_at(behind, 0, 0) == b'0')) {
         return None;
     }
-    let n = number_of(s)?;
+    let Some(n) = number_of(s) else {
+        // No `?`: must-fail/constant-leading-zero returns another answer here.
+        return None;
+    };
     if limit::FLOAT < n as u64 {
         return None;
     }

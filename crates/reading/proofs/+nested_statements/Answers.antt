@@ -25,14 +25,14 @@ opening-returns t c = let may = rw c.kind.ensures at (sym c.may_begin.ensures 鈭
     answers.shows_alike c.statement.ensures (omega arith) (位 ts h. law.opening_is _ (seen h (search rules)) may (search))
 
 -- `else`.
-pub otherwise-returns-in_err-word : goal.otherwise-returns-in_err-word
-otherwise-returns-in_err-word t c = answers.shows_unexpected c.in_err-word.ensures c.from_residual.ensures.1 (位 ts h none. law.other_none _ (seen h (search rules)) none)
+pub otherwise-returns-in_default : goal.otherwise-returns-in_default
+otherwise-returns-in_default t c = let x = c.in_default.ensures.refused in answers.shows_refused c.in_default.is (位 ts h. rw (x.1, x.2) (law.other_none _ (seen h (search rules)) x.0))
 
 pub otherwise-opening-requires : goal.otherwise-opening-requires
-otherwise-opening-requires t c = let word = c.in_ok-word.ensures.done in (omega (arith, word), rw word.1 (answers.ready_next c.requires word.0 (omega arith)))
+otherwise-opening-requires t c = let word = c.in-Ok.ensures.done in (omega (arith, word), rw word.1 (answers.ready_next c.requires word.0 (omega arith)))
 
 pub otherwise-returns : goal.otherwise-returns
-otherwise-returns t c = let word = c.in_ok-word.ensures.done in
+otherwise-returns t c = let word = c.in-Ok.ensures.done in
     answers.shows_alike c.opening.ensures (omega (arith, word)) (位 ts h. rw word.1 (law.other_is _ (seen h (search rules)) word.0))
 
 -- `scalar`.
