@@ -160,10 +160,15 @@ module _ {least : ℕ} {A : Type 0} {G : List Token → Out ℕ A} {fl : A → L
       → ((ts : List Token) → HoldsOnly T ts → G' ts ≡ refused why.refusal why.place → G ts ≡ refused why.refusal why.place) → ReadsAs least G fl T at old n new r
   hands_up s up f = shows_refused (handed_up _ up) (λ ts h. f ts h (s.refused ts h))
 
-  -- So is that of a token of another kind than one that has to stand there.
+  -- A token of another kind than one that has to stand there is refused.
+  pub refuses_unexpected : {kind p q : ℕ} {why : Refused} → Expects kind T p q (Err why) → r ≡ Err why
+      → ((ts : List Token) → HoldsOnly T ts → (kind_at T p ≡ kind → ⊥) → G ts ≡ refused NotAllowed (place_at T p)) → ReadsAs least G fl T at old n new r
+  refuses_unexpected x is none = let y = x.refused in shows_refused is (λ ts h. rw (y.1, y.2) (none ts h y.0))
+
+  -- The same, handed up by `?`.
   pub shows_unexpected : {kind p q : ℕ} {why : Refused} → Expects kind T p q (Err why) → IsErrAnd r (λ x. x ≡ why)
       → ((ts : List Token) → HoldsOnly T ts → (kind_at T p ≡ kind → ⊥) → G ts ≡ refused NotAllowed (place_at T p)) → ReadsAs least G fl T at old n new r
-  shows_unexpected x up none = let y = x.refused in shows_refused (handed_up _ up) (λ ts h. rw (y.1, y.2) (none ts h y.0))
+  shows_unexpected x up = refuses_unexpected x (handed_up _ up)
 
   -- What is made of what was read.
   pub shows_made : {least' : ℕ} {B : Type 0} {G' : List Token → Out ℕ B} {fl' : B → List ℕ} {at' : ℕ} → ReadsAs least' G' fl' T at' old n new r → (at ≤ at') × (at + least ≤ at' + least')

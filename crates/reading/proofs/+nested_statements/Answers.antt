@@ -26,7 +26,7 @@ opening-returns t c = let may = rw c.kind.ensures at (sym c.may_begin.ensures �
 
 -- `else`.
 pub otherwise-returns-in_default : goal.otherwise-returns-in_default
-otherwise-returns-in_default t c = let x = c.in_default.ensures.refused in answers.shows_refused c.in_default.is (λ ts h. rw (x.1, x.2) (law.other_none _ (seen h (search rules)) x.0))
+otherwise-returns-in_default t c = answers.refuses_unexpected c.in_default.ensures c.in_default.is (λ ts h none. law.other_none _ (seen h (search rules)) none)
 
 pub otherwise-opening-requires : goal.otherwise-opening-requires
 otherwise-opening-requires t c = let word = c.in-Ok.ensures.done in (omega (arith, word), rw word.1 (answers.ready_next c.requires word.0 (omega arith)))
